@@ -1,0 +1,18 @@
+// Lines of output: the case, and what was got as hexadecimal digits.
+use libc::STDOUT_FILENO;
+
+pub fn number(name: &[u8], got: u64) {
+    io::write_all(STDOUT_FILENO, name);
+    io::write_all(STDOUT_FILENO, b": ");
+    io::print_hex(STDOUT_FILENO, got, 4);
+    io::write_all(STDOUT_FILENO, b"\n");
+}
+
+pub fn truth(name: &[u8], got: bool) {
+    io::write_all(STDOUT_FILENO, name);
+    if got {
+        io::write_all(STDOUT_FILENO, b": yes\n");
+    } else {
+        io::write_all(STDOUT_FILENO, b": no\n");
+    }
+}

@@ -1,0 +1,15 @@
+-- Past the end `getD` is 0.
+use borrow.Author.Needs.{needs}
+use mathlib.Core.Path.{sym}
+use lib.ListN.{List·getD-eq-default}
+use Rattle.vdp_state.proofs.cell.number_at.Statement.{statement}
+use Rattle.vdp_state.proofs.cell.number_at.Tie as tie
+
+pub number-at-spec : {M : Type 1} → statement M
+number-at-spec =
+    tie.close
+    (tie.spec
+    (λ c. search needs)
+    (λ c. search needs)
+    (λ c. search needs)
+    (λ c. sym (List·getD-eq-default (c .before .args .words .now) 0 (c .if1 .left))))

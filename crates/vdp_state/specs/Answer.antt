@@ -1,0 +1,39 @@
+-- The numbers a call may answer, their order, and what a refused call answers: document 01, Numbers a call may answer.
+use Prim.Native.Nat.{ℕ}
+use mathlib.Core.Bool.{Bool, false, cond}
+use mathlib.Core.List.{List, [], _∷_}
+use lib.Dec.{eqb}
+use Rattle.vdp_state.specs.declared.state.State.{State}
+use Rattle.vdp_state.specs.declared.answer.Answer.{Answer}
+
+-- "Order: 1, 2, 3, 10, 8, 5, 4, 9, 7, 6"
+abbrev pub order : List ℕ
+order = 1 ∷ 2 ∷ 3 ∷ 10 ∷ 8 ∷ 5 ∷ 4 ∷ 9 ∷ 7 ∷ 6 ∷ []
+
+-- a number of the table and whether its condition holds; a call lists those that have its arguments
+pub record Test : Type 0 where
+  pub number : ℕ
+  pub holds : Bool
+
+abbrev pub gives : ℕ → Bool → Test
+gives n b = record { number = n; holds = b }
+
+-- whether the condition of n is among the tests and holds
+abbrev pub holdsAt : ℕ → List Test → Bool
+holdsAt n [] = false
+holdsAt n (t ∷ ts) = cond (eqb n (t .number)) (t .holds) (holdsAt n ts)
+
+abbrev pub firstOf : List ℕ → List Test → ℕ
+firstOf [] ts = 0
+firstOf (n ∷ ns) ts = cond (holdsAt n ts) n (firstOf ns ts)
+
+-- the number that a call answers: the first in the order whose condition holds, and 0 where none does
+abbrev pub first : List Test → ℕ
+first ts = firstOf order ts
+
+-- "A refused call yields its number, the state [..] as they came, zero for every other result"
+abbrev pub refused : ℕ → State → Answer
+refused n s = record { number = n; result = 0; state = s }
+
+abbrev pub done : ℕ → State → Answer
+done r s = record { number = 0; result = r; state = s }

@@ -1,0 +1,17 @@
+-- The fresh state: document 01, The state ("Fresh: all zero, PAL as asked").
+use mathlib.Core.Bool.{Bool, false}
+use lib.ListN.{replicate}
+use Rattle.vdp_state.specs.declared.state.State.{State}
+
+unfoldable pub fresh : Bool → State
+fresh pal = record {
+  registers = replicate 24 0;
+  cram = replicate 64 0;
+  vsram = replicate 40 0;
+  control = record {
+    port = record { address = 0; code = 0; pending = false };
+    dma = record { kind = 0; remaining = 0; source = 0; fill = 0 };
+    flags = record { overflow = false; collision = false };
+  };
+  pal = pal;
+}

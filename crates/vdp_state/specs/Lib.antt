@@ -1,0 +1,7 @@
+pub mod Answer
+pub mod Cell
+pub mod Colour
+pub mod Fresh
+pub mod Good
+pub mod Range
+pub mod State

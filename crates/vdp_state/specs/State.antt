@@ -1,0 +1,25 @@
+-- The chip: its state beside the 65,536 bytes of VRAM (document 01, The state), and a state with one part replaced.
+use Prim.Native.Nat.{ℕ}
+use mathlib.Core.List.{List}
+use Rattle.vdp_state.specs.declared.state.Control.{Control}
+use Rattle.vdp_state.specs.declared.state.State.{State}
+
+-- a state and the VRAM that is lent beside it
+pub record Chip : Type 0 where
+  pub state : State
+  pub vram : List ℕ
+
+abbrev pub chip : State → List ℕ → Chip
+chip s m = record { state = s; vram = m }
+
+abbrev pub withRegisters : State → List ℕ → State
+withRegisters s rs = record { registers = rs; cram = s .cram; vsram = s .vsram; control = s .control; pal = s .pal }
+
+abbrev pub withCram : State → List ℕ → State
+withCram s ws = record { registers = s .registers; cram = ws; vsram = s .vsram; control = s .control; pal = s .pal }
+
+abbrev pub withVsram : State → List ℕ → State
+withVsram s ws = record { registers = s .registers; cram = s .cram; vsram = ws; control = s .control; pal = s .pal }
+
+abbrev pub withControl : State → Control → State
+withControl s c = record { registers = s .registers; cram = s .cram; vsram = s .vsram; control = c; pal = s .pal }

@@ -1,0 +1,37 @@
+// The fresh state (document 01, The state).
+ghost use mathlib.Core.Path.{_≡_};
+ghost use mathlib.Core.Bool.{true};
+ghost use Rattle.vdp_state.specs.Fresh.{fresh as freshState};
+use crate::state::Control;
+use crate::state::Dma;
+use crate::state::Flags;
+use crate::state::Port;
+use crate::state::State;
+
+pub fn fresh(pal: bool) -> State
+    ensures { λ r. ⌜ r ≡ freshState pal ⌝ }
+{
+    State {
+        registers: [0; 24],
+        cram: [0; 64],
+        vsram: [0; 40],
+        control: Control {
+            port: Port {
+                address: 0,
+                code: 0,
+                pending: false,
+            },
+            dma: Dma {
+                kind: 0,
+                remaining: 0,
+                source: 0,
+                fill: 0,
+            },
+            flags: Flags {
+                overflow: false,
+                collision: false,
+            },
+        },
+        pal,
+    }
+}

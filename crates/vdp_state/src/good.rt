@@ -1,0 +1,69 @@
+// GOOD (document 01, The state): which states a call serves.
+ghost use mathlib.Core.Path.{_≡_};
+ghost use Rattle.vdp_state.specs.Good.{all, isColour, isScroll, goodSource, goodDma, goodControl, good as isGood};
+use crate::colour::colour_word;
+use crate::state::Control;
+use crate::state::Dma;
+use crate::state::State;
+
+// The most units that can remain.
+pub const MOST_UNITS: u32 = 65535;
+
+fn colours_good(words: [u16; 64]) -> bool
+    ensures { λ r. ⌜ r ≡ all isColour words ⌝ }
+{
+    let mut i = 0;
+    while i < 64 {
+        let w = words[i];
+        if colour_word(w) != w {
+            return false;
+        }
+        i += 1;
+    }
+    true
+}
+
+fn scrolls_good(words: [u16; 40]) -> bool
+    ensures { λ r. ⌜ r ≡ all isScroll words ⌝ }
+{
+    let mut i = 0;
+    while i < 40 {
+        if 0x3ff < words[i] {
+            return false;
+        }
+        i += 1;
+    }
+    true
+}
+
+fn source_good(kind: u8, source: u32) -> bool
+    ensures { λ r. ⌜ r ≡ goodSource kind source ⌝ }
+{
+    (source == 0)
+        | ((kind == 2) & (source % 2 == 0) & (source < 0x100_0000))
+        | ((kind == 4) & (source < 0x1_0000))
+}
+
+fn dma_good(d: Dma) -> bool
+    ensures { λ r. ⌜ r ≡ goodDma d ⌝ }
+{
+    (d.kind <= 4)
+        & (d.remaining <= MOST_UNITS)
+        & ((d.remaining == 0) == (d.kind <= 1))
+        & source_good(d.kind, d.source)
+        & ((d.fill == 0) | (d.kind == 3))
+}
+
+pub fn control_good(c: Control) -> bool
+    ensures { λ r. ⌜ r ≡ goodControl c ⌝ }
+{
+    (c.port.code <= 63) & dma_good(c.dma)
+}
+
+pub fn good(s: State) -> bool
+    ensures { λ r. ⌜ r ≡ isGood s ⌝ }
+{
+    let colours = s.cram;
+    let scrolls = s.vsram;
+    colours_good(colours) & scrolls_good(scrolls) & control_good(s.control)
+}

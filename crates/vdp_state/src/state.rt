@@ -1,0 +1,53 @@
+// The chip's state (document 01, The state) and a step, which is all that a port access, a DMA unit, a line or a new
+// frame does to it: a new control part and at most one stored cell.
+
+// The address and code registers, and whether the second half of a command is awaited.
+pub struct Port {
+    pub address: u16,
+    pub code: u8,
+    pub pending: bool,
+}
+
+// DMA kind: 0 idle, 1 fill waiting, 2 transfer, 3 fill, 4 copy; units remaining; source; fill byte.
+pub struct Dma {
+    pub kind: u8,
+    pub remaining: u32,
+    pub source: u32,
+    pub fill: u8,
+}
+
+// The sprite flags of the status word.
+pub struct Flags {
+    pub overflow: bool,
+    pub collision: bool,
+}
+
+// The part of the state that a tape record keeps whole.
+pub struct Control {
+    pub port: Port,
+    pub dma: Dma,
+    pub flags: Flags,
+}
+
+pub struct State {
+    pub registers: [u8; 24],
+    pub cram: [u16; 64],
+    pub vsram: [u16; 40],
+    pub control: Control,
+    pub pal: bool,
+}
+
+// A cell and a content for it: a VRAM word at an even place, a colour, a scroll word or a register, or no cell.
+pub enum Store {
+    Nothing,
+    Vram(u16, u16),
+    Cram(u8, u16),
+    Vsram(u8, u16),
+    Register(u8, u8),
+}
+
+// The control part that follows and the cell that is stored.
+pub struct Step {
+    pub control: Control,
+    pub store: Store,
+}
