@@ -8,6 +8,14 @@ pub fn number(name: &[u8], got: u64) {
     io::write_all(STDOUT_FILENO, b"\n");
 }
 
+pub fn word(name: &[u8], got: u16) {
+    number(name, got as u64);
+}
+
+pub fn byte(name: &[u8], got: u8) {
+    number(name, got as u64);
+}
+
 pub fn truth(name: &[u8], got: bool) {
     io::write_all(STDOUT_FILENO, name);
     if got {
@@ -15,4 +23,12 @@ pub fn truth(name: &[u8], got: bool) {
     } else {
         io::write_all(STDOUT_FILENO, b": no\n");
     }
+}
+
+pub fn long(name: &[u8], got: u32) {
+    number(name, got as u64);
+}
+
+pub fn count(name: &[u8], got: usize) {
+    number(name, got as u64);
 }

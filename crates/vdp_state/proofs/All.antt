@@ -1,22 +1,29 @@
--- A loop that tests the elements of a list one after the other: what is left to test at index i is `all p (drop i l)`.
-use Prim.Native.Nat.{ℕ, suc, _+_, _<_, _≤_}
-use mathlib.Core.Path.{_≡_, refl, ap, _∙_}
+-- A loop that tests the elements of a list one after the other: at index i, what has passed so far and what is left to test,
+-- `all p (drop i l)`, decide.
+use Prim.Native.Nat.{ℕ, _+_, _<_, _≤_}
+use mathlib.Core.Path.{_≡_, refl, sym, ap, _∙_}
 use mathlib.Core.Bool.{Bool, true, false, _&&_}
-use mathlib.Core.List.{List, [], _∷_}
+use mathlib.Core.List.{List}
 use native.Mathlib.Numerals.{add-one}
 use lib.ListN.{length, getD, drop, drop-of-length-le}
 use lib.Seq.{drop-cons}
 use Rattle.vdp_state.specs.Good.{all}
 
-module _ (p : ℕ → Bool) (l : List ℕ) (i : ℕ) where
-  -- the element at i passes, and the others are left
-  pub all-passed : i < length l → p (getD l i 0) ≡ true → all p (drop i l) ≡ all p (drop (i + 1) l)
-  all-passed h e = ap (all p) (drop-cons l i 0 h) ∙ simp (e, add-one)
+and-assoc : (a b c : Bool) → (a && b && c) ≡ (a && (b && c))
+and-assoc true b c = refl
+and-assoc false b c = refl
 
-  -- the element at i fails
-  pub all-failed : i < length l → p (getD l i 0) ≡ false → all p (drop i l) ≡ false
-  all-failed h e = ap (all p) (drop-cons l i 0 h) ∙ simp e
+and-true : (a : Bool) → (a && true) ≡ a
+and-true true = refl
+and-true false = refl
+
+module _ (p : ℕ → Bool) (l : List ℕ) (i : ℕ) (ok : Bool) where
+  -- the element at i is tested
+  pub all-turn : (ok′ : Bool) → ok′ ≡ (ok && p (getD l i 0)) → i < length l → (ok′ && all p (drop (i + 1) l)) ≡ (ok && all p (drop i l))
+  all-turn ok′ e h =
+      ap (λ (b : Bool). b && all p (drop (i + 1) l)) e ∙ and-assoc ok (p (getD l i 0)) (all p (drop (i + 1) l))
+      ∙ sym (ap (λ (r : List ℕ). ok && all p r) (drop-cons l i 0 h) ∙ simp add-one)
 
   -- nothing is left
-  pub all-ended : length l ≤ i → all p (drop i l) ≡ true
-  all-ended h = ap (all p) (drop-of-length-le l h)
+  pub all-end : length l ≤ i → ok ≡ (ok && all p (drop i l))
+  all-end h = sym (ap (λ (r : List ℕ). ok && all p r) (drop-of-length-le l h) ∙ and-true ok)

@@ -109,6 +109,10 @@ module _ (s : State) where
   unfolding good
   good-scrolls e = both-right (all isColour (s .cram)) (all isScroll (s .vsram)) (both-left _ (goodControl (s .control)) e)
 
+  pub good-control : good s ≡ true → goodControl (s .control) ≡ true
+  unfolding good
+  good-control e = both-right (all isColour (s .cram) && all isScroll (s .vsram)) (goodControl (s .control)) e
+
   pub good-of : all isColour (s .cram) ≡ true → all isScroll (s .vsram) ≡ true → goodControl (s .control) ≡ true → good s ≡ true
   unfolding good
   good-of p q r = both (both p q) r

@@ -1,10 +1,13 @@
 -- The numbers a call may answer, their order, and what a refused call answers: document 01, Numbers a call may answer.
 use Prim.Native.Nat.{ℕ}
-use mathlib.Core.Bool.{Bool, false, cond}
+use mathlib.Core.Bool.{Bool, false, cond, _&&_, _||_}
 use mathlib.Core.List.{List, [], _∷_}
 use lib.Dec.{eqb}
 use Rattle.vdp_state.specs.declared.state.State.{State}
+use Rattle.vdp_state.specs.declared.state.Step.{Step}
 use Rattle.vdp_state.specs.declared.answer.Answer.{Answer}
+use Rattle.vdp_state.specs.Cell.{after, storedIn}
+use Rattle.vdp_state.specs.State.{Chip}
 
 -- "Order: 1, 2, 3, 10, 8, 5, 4, 9, 7, 6"
 abbrev pub order : List ℕ
@@ -18,10 +21,10 @@ pub record Test : Type 0 where
 abbrev pub gives : ℕ → Bool → Test
 gives n b = record { number = n; holds = b }
 
--- whether the condition of n is among the tests and holds
+-- whether a condition of n is among the tests and holds
 abbrev pub holdsAt : ℕ → List Test → Bool
 holdsAt n [] = false
-holdsAt n (t ∷ ts) = cond (eqb n (t .number)) (t .holds) (holdsAt n ts)
+holdsAt n (t ∷ ts) = (eqb n (t .number) && t .holds) || holdsAt n ts
 
 abbrev pub firstOf : List ℕ → List Test → ℕ
 firstOf [] ts = 0
@@ -37,3 +40,18 @@ refused n s = record { number = n; result = 0; state = s }
 
 abbrev pub done : ℕ → State → Answer
 done r s = record { number = 0; result = r; state = s }
+
+-- a call that answers n: at 0 its one step is made and its result given, else it is refused and nothing changes
+abbrev pub answered : ℕ → State → Step → ℕ → Answer
+answered n s t r = cond (eqb n 0) (done r (after s t)) (refused n s)
+
+-- what a call leaves that is lent VRAM: its answer and VRAM
+pub record Outcome : Type 0 where
+  pub answer : Answer
+  pub vram : List ℕ
+
+abbrev pub outcome : Answer → List ℕ → Outcome
+outcome a m = record { answer = a; vram = m }
+
+abbrev pub served : ℕ → Chip → Step → ℕ → Outcome
+served n c t r = outcome (answered n (c .state) t r) (cond (eqb n 0) (storedIn (c .vram) (t .store)) (c .vram))

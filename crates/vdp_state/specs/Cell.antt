@@ -31,8 +31,11 @@ storedIn m (Vsram i w) = m
 storedIn m (Register i b) = m
 
 -- a step: the cell is stored and the control part replaced
+abbrev pub after : State → Step → State
+after s t = withControl (stored s (t .store)) (t .control)
+
 unfoldable pub perform : Chip → Step → Chip
-perform c t = record { state = withControl (stored (c .state) (t .store)) (t .control); vram = storedIn (c .vram) (t .store) }
+perform c t = record { state = after (c .state) t; vram = storedIn (c .vram) (t .store) }
 
 -- the same cell with what it holds now
 abbrev pub present : Chip → Store → Store

@@ -2,6 +2,9 @@
 use Prim.Native.Nat.{ℕ}
 use mathlib.Core.List.{List}
 use Rattle.vdp_state.specs.declared.state.Control.{Control}
+use Rattle.vdp_state.specs.declared.state.Dma.{Dma}
+use Rattle.vdp_state.specs.declared.state.Flags.{Flags}
+use Rattle.vdp_state.specs.declared.state.Port.{Port}
 use Rattle.vdp_state.specs.declared.state.State.{State}
 
 -- a state and the VRAM that is lent beside it
@@ -23,3 +26,12 @@ withVsram s ws = record { registers = s .registers; cram = s .cram; vsram = ws; 
 
 abbrev pub withControl : State → Control → State
 withControl s c = record { registers = s .registers; cram = s .cram; vsram = s .vsram; control = c; pal = s .pal }
+
+abbrev pub withPort : Control → Port → Control
+withPort c p = record { port = p; dma = c .dma; flags = c .flags }
+
+abbrev pub withDma : Control → Dma → Control
+withDma c d = record { port = c .port; dma = d; flags = c .flags }
+
+abbrev pub withFlags : Control → Flags → Control
+withFlags c f = record { port = c .port; dma = c .dma; flags = f }

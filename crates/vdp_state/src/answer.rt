@@ -1,7 +1,11 @@
 // The numbers a call may answer (document 01, Numbers a call may answer) and the answers that carry them.
 ghost use mathlib.Core.Path.{_≡_};
-ghost use Rattle.vdp_state.specs.Answer.{refused as refusedAs, done as doneAs};
+ghost use Rattle.vdp_state.specs.Answer.{answered as answeredAs, outcome, served};
+ghost use Rattle.vdp_state.specs.State.{chip};
+use crate::cell::after;
+use crate::cell::store_in;
 use crate::state::State;
+use crate::state::Step;
 
 pub const DONE: u8 = 0;
 
@@ -32,22 +36,32 @@ pub struct Answer {
     pub state: State,
 }
 
-pub fn refused(number: u8, state: State) -> Answer
-    ensures { λ r. ⌜ r ≡ refusedAs number state ⌝ }
+// The answer of a call with this number: at 0 its step is made, else it is refused.
+pub fn answered(number: u8, s: State, t: Step, result: u32) -> Answer
+    ensures { λ r. ⌜ r ≡ answeredAs number s t result ⌝ }
 {
+    if number == DONE {
+        return Answer {
+            number: DONE,
+            result,
+            state: after(s, t),
+        };
+    }
     Answer {
         number,
         result: 0,
-        state,
+        state: s,
     }
 }
 
-pub fn done(result: u32, state: State) -> Answer
-    ensures { λ r. ⌜ r ≡ doneAs result state ⌝ }
+// The same for a call that is lent VRAM.
+pub fn serve(number: u8, s: State, vram: &mut [u8], t: Step, result: u32) -> Answer
+    ensures { λ r. ⌜ outcome r (now (vram .exit)) ≡ served number (chip s (now (vram .entry))) t result ⌝ }
 {
-    Answer {
-        number: DONE,
-        result,
-        state,
+    if number != DONE {
+        return answered(number, s, t, result);
     }
+    let store = t.store;
+    store_in(vram, store);
+    answered(number, s, t, result)
 }

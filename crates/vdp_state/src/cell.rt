@@ -3,7 +3,7 @@ ghost use mathlib.Core.Path.{_≡_};
 ghost use Prim.Native.Nat.{_+_, _*_};
 ghost use lib.ListN.{getD, set};
 ghost use Rattle.vdp_state.specs.State.{chip};
-ghost use Rattle.vdp_state.specs.Cell.{wordAt, putWord, stored as storedState, perform as performed, present as presentStore, undoing as undoingStep};
+ghost use Rattle.vdp_state.specs.Cell.{wordAt, putWord, storedIn, after as stateAfter, perform as performed, present as presentStore, undoing as undoingStep};
 use crate::state::State;
 use crate::state::Step;
 use crate::state::Store;
@@ -37,18 +37,19 @@ fn put_number(words: &mut [u16], i: usize, w: u16)
     }
 }
 
-fn joined(high: u8, low: u8) -> u16
+// Two bytes as a word.
+pub fn joined(high: u8, low: u8) -> u16
     ensures { λ r. ⌜ r ≡ high * 256 + low ⌝ }
 {
     (high as u16) * 256 + (low as u16)
 }
 
-// The VRAM word at a place, upper byte first; bytes past the end are 0.
-pub fn word_at(vram: &[u8], place: u16) -> u16
-    ensures { λ r. ⌜ r ≡ wordAt (now (vram .entry)) place ⌝ }
+// The word at a place, upper byte first; bytes past the end are 0.
+pub fn word_at(bytes: &[u8], place: u32) -> u16
+    ensures { λ r. ⌜ r ≡ wordAt (now (bytes .entry)) place ⌝ }
 {
     let p = place as usize;
-    joined(byte_at(vram, p), byte_at(vram, p + 1))
+    joined(byte_at(bytes, p), byte_at(bytes, p + 1))
 }
 
 pub fn put_word(vram: &mut [u8], place: u16, w: u16)
@@ -59,9 +60,22 @@ pub fn put_word(vram: &mut [u8], place: u16, w: u16)
     put_byte(vram, p + 1, (w % 256) as u8);
 }
 
-// Stores a step's cell and takes over its control part.
-pub fn perform(s: State, vram: &mut [u8], t: Step) -> State
-    ensures { λ r. ⌜ chip r (now (vram .exit)) ≡ performed (chip s (now (vram .entry))) t ⌝ }
+// Stores a step's cell in VRAM, if that is where it lies.
+pub fn store_in(vram: &mut [u8], store: Store)
+    ensures { λ _. ⌜ now (vram .exit) ≡ storedIn (now (vram .entry)) store ⌝ }
+{
+    match store {
+        Store::Vram(place, w) => put_word(vram, place, w),
+        Store::Nothing => {}
+        Store::Cram(_, _) => {}
+        Store::Vsram(_, _) => {}
+        Store::Register(_, _) => {}
+    }
+}
+
+// The state after a step: its cell, if that is one of the state's, and its control part.
+pub fn after(s: State, t: Step) -> State
+    ensures { λ r. ⌜ r ≡ stateAfter s t ⌝ }
 {
     let control = t.control;
     let store = t.store;
@@ -69,10 +83,7 @@ pub fn perform(s: State, vram: &mut [u8], t: Step) -> State
     next.control = control;
     match store {
         Store::Nothing => next,
-        Store::Vram(place, w) => {
-            put_word(vram, place, w);
-            next
-        }
+        Store::Vram(_, _) => next,
         Store::Cram(i, w) => {
             let mut words = s.cram;
             put_number(&mut words, i as usize, w);
@@ -94,12 +105,21 @@ pub fn perform(s: State, vram: &mut [u8], t: Step) -> State
     }
 }
 
+// Performs a step on the state and VRAM.
+pub fn perform(s: State, vram: &mut [u8], t: Step) -> State
+    ensures { λ r. ⌜ chip r (now (vram .exit)) ≡ performed (chip s (now (vram .entry))) t ⌝ }
+{
+    let store = t.store;
+    store_in(vram, store);
+    after(s, t)
+}
+
 fn present(s: State, vram: &[u8], store: Store) -> Store
     ensures { λ r. ⌜ r ≡ presentStore (chip s (now (vram .entry))) store ⌝ }
 {
     match store {
         Store::Nothing => Store::Nothing,
-        Store::Vram(place, _) => Store::Vram(place, word_at(vram, place)),
+        Store::Vram(place, _) => Store::Vram(place, word_at(vram, place as u32)),
         Store::Cram(i, _) => Store::Cram(i, number_at(&s.cram, i as usize)),
         Store::Vsram(i, _) => Store::Vsram(i, number_at(&s.vsram, i as usize)),
         Store::Register(i, _) => Store::Register(i, byte_at(&s.registers, i as usize)),

@@ -9,31 +9,30 @@ use crate::state::State;
 // The most units that can remain.
 pub const MOST_UNITS: u32 = 65535;
 
+// Every word is looked at, whatever the others are: a loop without a way out runs on many words at once.
 fn colours_good(words: [u16; 64]) -> bool
     ensures { λ r. ⌜ r ≡ all isColour words ⌝ }
 {
+    let mut ok = true;
     let mut i = 0;
     while i < 64 {
         let w = words[i];
-        if colour_word(w) != w {
-            return false;
-        }
+        ok = ok & (colour_word(w) == w);
         i += 1;
     }
-    true
+    ok
 }
 
 fn scrolls_good(words: [u16; 40]) -> bool
     ensures { λ r. ⌜ r ≡ all isScroll words ⌝ }
 {
+    let mut ok = true;
     let mut i = 0;
     while i < 40 {
-        if 0x3ff < words[i] {
-            return false;
-        }
+        ok = ok & (words[i] <= 0x3ff);
         i += 1;
     }
-    true
+    ok
 }
 
 fn source_good(kind: u8, source: u32) -> bool

@@ -2,6 +2,7 @@
 // frame does to it: a new control part and at most one stored cell.
 
 // The address and code registers, and whether the second half of a command is awaited.
+#[repr(C)]
 pub struct Port {
     pub address: u16,
     pub code: u8,
@@ -9,6 +10,7 @@ pub struct Port {
 }
 
 // DMA kind: 0 idle, 1 fill waiting, 2 transfer, 3 fill, 4 copy; units remaining; source; fill byte.
+#[repr(C)]
 pub struct Dma {
     pub kind: u8,
     pub remaining: u32,
@@ -17,18 +19,21 @@ pub struct Dma {
 }
 
 // The sprite flags of the status word.
+#[repr(C)]
 pub struct Flags {
     pub overflow: bool,
     pub collision: bool,
 }
 
 // The part of the state that a tape record keeps whole.
+#[repr(C)]
 pub struct Control {
     pub port: Port,
     pub dma: Dma,
     pub flags: Flags,
 }
 
+#[repr(C)]
 pub struct State {
     pub registers: [u8; 24],
     pub cram: [u16; 64],

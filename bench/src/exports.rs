@@ -1,0 +1,118 @@
+// What include/kuthbareen.h declares, as far as the benchmark calls it. The only `unsafe` of the program is here: each
+// export stands behind a safe function that lends it references and slices.
+
+#[repr(C)]
+#[derive(Clone, Debug, PartialEq)]
+pub struct Port {
+    pub address: u16,
+    pub code: u8,
+    pub pending: bool,
+}
+
+#[repr(C)]
+#[derive(Clone, Debug, Default, PartialEq)]
+pub struct Dma {
+    pub kind: u8,
+    pub remaining: u32,
+    pub source: u32,
+    pub fill: u8,
+}
+
+#[repr(C)]
+#[derive(Clone, Debug, PartialEq)]
+pub struct Flags {
+    pub overflow: bool,
+    pub collision: bool,
+}
+
+#[repr(C)]
+#[derive(Clone, Debug, PartialEq)]
+pub struct Control {
+    pub port: Port,
+    pub dma: Dma,
+    pub flags: Flags,
+}
+
+#[repr(C)]
+#[derive(Clone, Debug, PartialEq)]
+pub struct State {
+    pub registers: [u8; 24],
+    pub cram: [u16; 64],
+    pub vsram: [u16; 40],
+    pub control: Control,
+    pub pal: bool,
+}
+
+#[repr(C)]
+#[derive(Clone, Copy, Debug, PartialEq)]
+pub struct Answer {
+    pub number: u8,
+    pub result: u32,
+}
+
+pub const DONE: u8 = 0;
+pub const BAD_STATE: u8 = 1;
+pub const BUSY: u8 = 3;
+pub const SOURCE_NOT_LENT: u8 = 7;
+
+mod c {
+    use super::{Answer, State};
+
+    extern "C" {
+        pub fn kuthbareen_fresh(pal: bool) -> State;
+        pub fn kuthbareen_control_write(state: *mut State, word: u16) -> Answer;
+        pub fn kuthbareen_data_write(
+            state: *mut State,
+            vram: *mut u8,
+            vram_size: usize,
+            word: u16,
+        ) -> Answer;
+        pub fn kuthbareen_run(
+            state: *mut State,
+            vram: *mut u8,
+            vram_size: usize,
+            cartridge: *const u8,
+            cartridge_size: usize,
+            ram: *const u8,
+            ram_size: usize,
+            budget: u32,
+        ) -> Answer;
+    }
+}
+
+pub fn fresh(pal: bool) -> State {
+    // SAFETY: takes no memory; every field of the state it gives is set.
+    unsafe { c::kuthbareen_fresh(pal) }
+}
+
+pub fn control_write(state: &mut State, word: u16) -> Answer {
+    // SAFETY: a State has every field set, and the reference is the only one.
+    unsafe { c::kuthbareen_control_write(state, word) }
+}
+
+pub fn data_write(state: &mut State, vram: &mut [u8], word: u16) -> Answer {
+    // SAFETY: as above; a slice is never null, and two mutable references do not overlap.
+    unsafe { c::kuthbareen_data_write(state, vram.as_mut_ptr(), vram.len(), word) }
+}
+
+pub fn run(
+    state: &mut State,
+    vram: &mut [u8],
+    cartridge: &[u8],
+    ram: &[u8],
+    budget: u32,
+) -> Answer {
+    // SAFETY: as above; what is only read may overlap nothing that is written, by the rules of references.
+    unsafe {
+        c::kuthbareen_run(
+            state,
+            vram.as_mut_ptr(),
+            vram.len(),
+            cartridge.as_ptr(),
+            cartridge.len(),
+            ram.as_ptr(),
+            ram.len(),
+            budget,
+        )
+    }
+}

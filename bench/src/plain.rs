@@ -1,0 +1,179 @@
+// The same work as a plain Rust program would do it: the state is changed in place, unit by unit, by the rules of
+// document 01 (Ports and DMA). Buffers are arrays, so that no store needs a bounds check. Calls are never inlined, as
+// those of the library are not.
+use crate::exports::{Answer, Dma, State, BAD_STATE, BUSY, DONE, SOURCE_NOT_LENT};
+use crate::machine::Memory;
+
+const WORK_RAM: u32 = 0xE0_0000;
+
+// GOOD, as the library asks it of every state.
+fn good(state: &State) -> bool {
+    let dma = &state.control.dma;
+    let source_good = match dma.kind {
+        2 => dma.source & 1 == 0 && dma.source < 0x100_0000,
+        4 => dma.source < 0x1_0000,
+        _ => dma.source == 0,
+    };
+    state.cram.iter().all(|w| w & !0x0EEE == 0)
+        && state.vsram.iter().all(|w| *w <= 0x3FF)
+        && state.control.port.code <= 63
+        && dma.kind <= 4
+        && dma.remaining <= 65_535
+        && (dma.remaining == 0) == (dma.kind <= 1)
+        && source_good
+        && (dma.fill == 0 || dma.kind == 3)
+}
+
+// Stores a word where the code and the address say.
+fn store_word(state: &mut State, vram: &mut Memory, word: u16) {
+    let address = state.control.port.address;
+    let index = usize::from(address / 2 % 64);
+    match state.control.port.code & 0b1111 {
+        0b0001 => store_vram(vram, address, word),
+        0b0011 => state.cram[index] = word & 0x0EEE,
+        0b0101 if index < 40 => state.vsram[index] = word & 0x3FF,
+        _ => {}
+    }
+}
+
+// Upper byte first at the even place; swapped if the address is odd.
+fn store_vram(vram: &mut Memory, address: u16, word: u16) {
+    let place = usize::from(address & !1);
+    let word = if address & 1 == 0 {
+        word
+    } else {
+        word.swap_bytes()
+    };
+    let [high, low] = word.to_be_bytes();
+    vram[place] = high;
+    vram[place | 1] = low;
+}
+
+fn advance(state: &mut State) {
+    let port = &mut state.control.port;
+    port.address = port.address.wrapping_add(u16::from(state.registers[15]));
+}
+
+// A data write that trusts the state it is lent.
+#[inline(never)]
+pub fn data_write(state: &mut State, vram: &mut Memory, word: u16) -> Answer {
+    let dma = &state.control.dma;
+    if dma.kind >= 2 {
+        return answer(BUSY, 0);
+    }
+    if dma.kind == 1 {
+        state.control.dma = fill_begun(state, word);
+    }
+    store_word(state, vram, word);
+    advance(state);
+    state.control.port.pending = false;
+    answer(DONE, 0)
+}
+
+// A data write that asks GOOD first, as the library does.
+#[inline(never)]
+pub fn data_write_asking_good(state: &mut State, vram: &mut Memory, word: u16) -> Answer {
+    if !good(state) {
+        return answer(BAD_STATE, 0);
+    }
+    data_write(state, vram, word)
+}
+
+fn fill_begun(state: &State, word: u16) -> Dma {
+    let length = u16::from_be_bytes([state.registers[20], state.registers[19]]);
+    Dma {
+        kind: 3,
+        remaining: if length == 0 {
+            65_535
+        } else {
+            u32::from(length)
+        },
+        source: 0,
+        fill: (word >> 8) as u8,
+    }
+}
+
+// Makes DMA units, at most as many as the budget.
+#[inline(never)]
+pub fn run(
+    state: &mut State,
+    vram: &mut Memory,
+    cartridge: &[u8],
+    ram: &Memory,
+    budget: u32,
+) -> Answer {
+    if !good(state) {
+        return answer(BAD_STATE, 0);
+    }
+    let units = budget.min(state.control.dma.remaining);
+    match state.control.dma.kind {
+        2 if lacking(&state.control.dma, cartridge, units) => return answer(SOURCE_NOT_LENT, 0),
+        2 => transfer(state, vram, cartridge, ram, units),
+        3 => fill(state, vram, units),
+        4 => copy(state, vram, units),
+        _ => return answer(DONE, 0),
+    }
+    if state.control.dma.remaining == 0 {
+        state.control.dma = Dma::default();
+    }
+    answer(DONE, units)
+}
+
+fn lacking(dma: &Dma, cartridge: &[u8], units: u32) -> bool {
+    let end = dma.source as usize + 2 * units as usize;
+    units > 0 && dma.source < WORK_RAM && end > cartridge.len()
+}
+
+fn transfer(state: &mut State, vram: &mut Memory, cartridge: &[u8], ram: &Memory, units: u32) {
+    for _ in 0..units {
+        let word = word_from(cartridge, ram, state.control.dma.source);
+        store_word(state, vram, word);
+        advance(state);
+        let dma = &mut state.control.dma;
+        dma.source = if dma.source == 0xFF_FFFE {
+            0xFF_0000
+        } else {
+            dma.source + 2
+        };
+        dma.remaining -= 1;
+    }
+}
+
+// The word at a source; 0 where it lies in neither memory.
+fn word_from(cartridge: &[u8], ram: &Memory, source: u32) -> u16 {
+    if source >= WORK_RAM {
+        let place = (source & 0xFFFE) as usize;
+        return u16::from_be_bytes([ram[place], ram[place | 1]]);
+    }
+    let place = source as usize;
+    match cartridge.get(place..place + 2) {
+        Some(bytes) => u16::from_be_bytes([bytes[0], bytes[1]]),
+        None => 0,
+    }
+}
+
+fn fill(state: &mut State, vram: &mut Memory, units: u32) {
+    let stores = state.control.port.code & 0b1111 == 0b0001;
+    for _ in 0..units {
+        if stores {
+            vram[usize::from(state.control.port.address ^ 1)] = state.control.dma.fill;
+        }
+        advance(state);
+        state.control.dma.remaining -= 1;
+    }
+}
+
+fn copy(state: &mut State, vram: &mut Memory, units: u32) {
+    for _ in 0..units {
+        let source = state.control.dma.source & 0xFFFF;
+        vram[usize::from(state.control.port.address)] = vram[source as usize];
+        advance(state);
+        let dma = &mut state.control.dma;
+        dma.source = (source + 1) & 0xFFFF;
+        dma.remaining -= 1;
+    }
+}
+
+fn answer(number: u8, result: u32) -> Answer {
+    Answer { number, result }
+}

@@ -1,0 +1,4 @@
+pub mod Accepted
+pub mod Bench
+pub mod Units
+pub mod Words

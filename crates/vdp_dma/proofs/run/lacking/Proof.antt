@@ -1,0 +1,17 @@
+-- By what `place_of` ensures of the two numbers.
+use borrow.Author.Needs.{needs}
+use Rattle.vdp_dma.proofs.run.lacking.Statement.{statement}
+use Rattle.vdp_dma.proofs.run.lacking.Tie as tie
+
+returns : tie.Need-returns
+returns c = simp (c .before .before .place-of2 .ensures, c .before .before .before .place-of .ensures)
+
+pub lacking-spec : {M : Type 1} → statement M
+lacking-spec =
+    tie.close
+    (tie.spec
+    (λ c κs. search needs)
+    (λ c κs. search needs)
+    (λ c. search needs)
+    (λ c. search needs)
+    returns)

@@ -1,0 +1,105 @@
+-- The starred cases of document 01, Worked on the bench, as one table: what the definitions give, and what they should give.
+use Prim.Native.Nat.{ℕ}
+use mathlib.Core.Bool.{Bool, true, false, _&&_}
+use lib.Dec.{eqb}
+use mathlib.Core.List.{List, [], _∷_}
+use lib.ListN.{getD, set, take, replicate}
+use Rattle.vdp_state.specs.declared.state.State.{State}
+use Rattle.vdp_state.specs.Answer.{Outcome}
+use Rattle.vdp_state.specs.Fresh.{fresh}
+use Rattle.vdp_state.specs.State.{Chip, chip}
+use Rattle.vdp_ports.specs.Control.{controlWrite}
+use Rattle.vdp_ports.specs.Data.{dataWrite}
+use Rattle.vdp_ports.specs.Length.{register}
+use Rattle.vdp_ports.specs.Status.{statusRead}
+use Rattle.vdp_dma.specs.Run.{run}
+
+-- a state after control words, one after the other
+abbrev pub controls : List ℕ → State → State
+controls [] s = s
+controls (w ∷ ws) s = controls ws (controlWrite s w .state)
+
+abbrev pub start : State
+start = fresh false
+
+abbrev pub zeros : List ℕ
+zeros = replicate 65536 0
+
+-- a chip after a data word, and after a run of all its units
+abbrev pub left : Outcome → Chip
+left o = chip (o .answer .state) (o .vram)
+
+abbrev pub written : ℕ → Chip → Chip
+written w c = left (dataWrite c w)
+
+abbrev pub ended : Chip → Chip
+ended c = left (run c [] zeros 65535)
+
+-- auto-increment 2, and the two halves of a command: VRAM write, colour write, scroll write
+abbrev pub accessed : ℕ → ℕ → State
+accessed firstHalf secondHalf = controls (0x8f02 ∷ firstHalf ∷ secondHalf ∷ []) start
+
+-- "Zero VRAM, fill 1234h at 0, step 1, length 4"
+abbrev pub filled : Chip
+filled = ended (written 0x1234 (chip (controls (0x8f01 ∷ 0x9304 ∷ 0x9400 ∷ 0x9780 ∷ 0x8114 ∷ 0x4000 ∷ 0x0080 ∷ []) start) zeros))
+
+-- "AA 00 00 00, copy 0 to 1, length 3, step 1"
+abbrev pub copying : State
+copying = controls (0x8f01 ∷ 0x9303 ∷ 0x9400 ∷ 0x97c0 ∷ 0x8114 ∷ 0x0001 ∷ 0x00c0 ∷ []) start
+
+pub record Case : Type 0 where
+  pub given : List ℕ
+  pub should : List ℕ
+
+abbrev pub gives : List ℕ → List ℕ → Case
+gives g s = record { given = g; should = s }
+
+-- what is looked at of a state and of a chip
+abbrev pub codeAndAddress : State → List ℕ
+codeAndAddress s = s .control .port .code ∷ s .control .port .address ∷ []
+
+abbrev pub bytesAndAddress : ℕ → Chip → List ℕ
+bytesAndAddress n c = c .state .control .port .address ∷ take n (c .vram)
+
+abbrev pub scrollsAndAddress : State → List ℕ
+scrollsAndAddress s = s .control .port .address ∷ s .vsram
+
+unfoldable pub table : List Case
+table =
+    -- 8F02h: register 15 = 2
+    gives (register (controls (0x8f02 ∷ []) start) 15 ∷ []) (2 ∷ [])
+    -- C000h, 0000h: code 3, address 0
+    ∷ gives (codeAndAddress (controls (0xc000 ∷ 0x0000 ∷ []) start)) (3 ∷ 0 ∷ [])
+    -- 4000h, 0003h: code 1, address C000h
+    ∷ gives (codeAndAddress (controls (0x4000 ∷ 0x0003 ∷ []) start)) (1 ∷ 0xc000 ∷ [])
+    -- 0000h, 00C0h: code 30h
+    ∷ gives (codeAndAddress (controls (0x0000 ∷ 0x00c0 ∷ []) start)) (0x30 ∷ 0 ∷ [])
+    -- 1234h at VRAM 0001h: bytes 0, 1 = 34h, 12h
+    ∷ gives (bytesAndAddress 2 (written 0x1234 (chip (accessed 0x4001 0x0000) zeros))) (3 ∷ 0x34 ∷ 0x12 ∷ [])
+    -- FFFFh at colour 0080h: entry 0 = 0EEEh
+    ∷ gives (take 2 (written 0xffff (chip (accessed 0xc080 0x0000) zeros) .state .cram)) (0x0eee ∷ 0 ∷ [])
+    -- scroll 004Eh is word 39
+    ∷ gives (scrollsAndAddress (written 0x0155 (chip (accessed 0x404e 0x0010) zeros) .state)) (0x0050 ∷ set (replicate 40 0) 39 0x155)
+    -- 0050h stores nothing, address moves
+    ∷ gives (scrollsAndAddress (written 0x0155 (chip (accessed 0x4050 0x0010) zeros) .state)) (0x0052 ∷ replicate 40 0)
+    -- FFFEh + 2 = 0000h
+    ∷ gives (bytesAndAddress 1 (written 0x0000 (chip (accessed 0x7ffe 0x0003) zeros))) (0x0000 ∷ 0 ∷ [])
+    -- fresh status 3600h, PAL 3601h; 3602h in a copy
+    ∷ gives (statusRead start .result ∷ statusRead (fresh true) .result ∷ statusRead copying .result ∷ []) (0x3600 ∷ 0x3601 ∷ 0x3602 ∷ [])
+    -- the fill: 12 34 12 12 00 12, address 5
+    ∷ gives (bytesAndAddress 6 filled) (5 ∷ 0x12 ∷ 0x34 ∷ 0x12 ∷ 0x12 ∷ 0x00 ∷ 0x12 ∷ [])
+    -- the copy: four AA
+    ∷ gives (bytesAndAddress 5 (ended (chip copying (set zeros 0 0xaa)))) (4 ∷ 0xaa ∷ 0xaa ∷ 0xaa ∷ 0xaa ∷ 0x00 ∷ [])
+    ∷ []
+
+-- the same numbers in the same order
+abbrev pub same : List ℕ → List ℕ → Bool
+same [] [] = true
+same [] (y ∷ ys) = false
+same (x ∷ xs) [] = false
+same (x ∷ xs) (y ∷ ys) = eqb x y && same xs ys
+
+-- every case gives what it should
+abbrev pub allGiven : List Case → Bool
+allGiven [] = true
+allGiven (c ∷ cs) = same (c .given) (c .should) && allGiven cs

@@ -1,0 +1,5 @@
+pub mod Bench
+pub mod Run
+pub mod Source
+pub mod Transfer
+pub mod Unit

@@ -1,0 +1,27 @@
+-- Patterns: document 01, Drawing ("Pattern row r is 4 bytes at 32 x name + 4r, left pixel in the high half").
+use Prim.Native.Nat.{ℕ, zero, suc, _+_, _*_, _/_, _%_}
+use mathlib.Core.Bool.{cond}
+use mathlib.Core.List.{List, [], _∷_, _++_}
+use lib.Dec.{eqb}
+use lib.ListN.{getD}
+
+-- the first byte of a pattern's row
+abbrev pub rowPlace : ℕ → ℕ → ℕ
+rowPlace name row = 32 * name + 4 * row
+
+-- the pixel that a byte holds for a column: two pixels a byte, the left one in the high half
+abbrev pub half : ℕ → ℕ → ℕ
+half b column = cond (eqb (column % 2) 0) (b / 16) (b % 16)
+
+-- a pixel of the pattern as it lies in VRAM, unflipped
+abbrev pub patternPixel : List ℕ → ℕ → ℕ → ℕ → ℕ
+patternPixel vram name row column = half (getD vram (rowPlace name row + column / 2) 0) column
+
+-- the pixels of the columns below n, left to right
+abbrev pub across : (ℕ → ℕ) → ℕ → List ℕ
+across pixel zero = []
+across pixel (suc n) = across pixel n ++ (pixel n ∷ [])
+
+-- a row's eight pixels
+abbrev pub rowPixels : List ℕ → ℕ → ℕ → List ℕ
+rowPixels vram name row = across (patternPixel vram name row) 8

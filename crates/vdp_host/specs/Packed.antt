@@ -1,0 +1,7 @@
+-- A colour word's three parts as one number: document 01, Ports, last part.
+use Prim.Native.Nat.{ℕ, _+_, _*_}
+use Rattle.vdp_ports.specs.declared.parts.Parts.{Parts}
+
+-- a part in each hexadecimal digit, where the colour word has it
+abbrev pub packed : Parts → ℕ
+packed p = 256 * p .blue + 16 * p .green + p .red

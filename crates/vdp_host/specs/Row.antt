@@ -1,0 +1,37 @@
+-- The pixels of a pattern's row for a host program: document 01, Ports, last part, and Numbers a call may answer.
+use Prim.Native.Nat.{ℕ}
+use mathlib.Core.Bool.{cond, not, _||_}
+use mathlib.Core.List.{List, [], _∷_}
+use lib.Dec.{eqb, ltb}
+use lib.ListN.{length}
+use Rattle.vdp_state.specs.Answer.{Test, gives, first}
+use Rattle.vdp_ports.specs.Refusal.{badVram}
+use Rattle.vdp_draw.specs.Pattern.{rowPixels}
+
+-- 2: "pixel buffer not 320 (pattern row: 8)"
+abbrev pub badRow : List ℕ → Test
+badRow pixels = gives 2 (not (eqb (length pixels) 8))
+
+-- 5: "pattern name above 2,047 or row above 7"
+abbrev pub noPattern : ℕ → ℕ → Test
+noPattern name row = gives 5 (ltb 2047 name || ltb 7 row)
+
+abbrev pub rowTests : List ℕ → ℕ → ℕ → List ℕ → List Test
+rowTests vram name row pixels = badVram vram ∷ badRow pixels ∷ noPattern name row ∷ []
+
+abbrev pub rowNumber : List ℕ → ℕ → ℕ → List ℕ → ℕ
+rowNumber vram name row pixels = first (rowTests vram name row pixels)
+
+-- what the call leaves: its number and the row buffer, which a refused call leaves untouched
+pub record Shown : Type 0 where
+  pub number : ℕ
+  pub pixels : List ℕ
+
+abbrev pub shown : ℕ → List ℕ → Shown
+shown n pixels = record { number = n; pixels = pixels }
+
+abbrev pub shownAt : ℕ → List ℕ → List ℕ → Shown
+shownAt n drawn before = shown n (cond (eqb n 0) drawn before)
+
+abbrev pub patternRow : List ℕ → ℕ → ℕ → List ℕ → Shown
+patternRow vram name row pixels = shownAt (rowNumber vram name row pixels) (rowPixels vram name row) pixels

@@ -1,0 +1,28 @@
+-- By what `flag` ensures of each part.
+use borrow.Author.Needs.{needs}
+use Rattle.vdp_ports.specs.Status.{statusWord}
+use Rattle.vdp_ports.proofs.status.status_word.Statement.{statement}
+use Rattle.vdp_ports.proofs.status.status_word.Tie as tie
+
+returns : tie.Need-returns
+unfolding statusWord
+returns c = cc
+
+pub status-word-spec : {M : Type 1} → statement M
+status-word-spec =
+    tie.close
+    (tie.spec
+    (λ c κs. search needs)
+    (λ c κs. search needs)
+    (λ c. search needs)
+    (λ c κs. search needs)
+    (λ c. search needs)
+    (λ c κs. search needs)
+    (λ c. search needs)
+    (λ c κs. search needs)
+    (λ c. search needs)
+    (λ c. search needs)
+    (λ c. search needs)
+    (λ c. search needs)
+    (λ c. search needs)
+    returns)

@@ -1,0 +1,23 @@
+-- A new frame: document 01, Ports ("A new-frame call clears overflow and collision").
+use Prim.Native.Nat.{ℕ}
+use mathlib.Core.Bool.{false}
+use mathlib.Core.List.{List, [], _∷_}
+use Rattle.vdp_state.specs.declared.answer.Answer.{Answer}
+use Rattle.vdp_state.specs.declared.state.State.{State}
+use Rattle.vdp_state.specs.declared.state.Step.{Step}
+use Rattle.vdp_state.specs.declared.state.Store.the-variants.{Nothing}
+use Rattle.vdp_state.specs.Answer.{Test, first, answered}
+use Rattle.vdp_state.specs.State.{withFlags}
+use Rattle.vdp_ports.specs.Refusal.{badState}
+
+abbrev pub frameStep : State → Step
+frameStep s = record { control = withFlags (s .control) (record { overflow = false; collision = false }); store = Nothing }
+
+abbrev pub frameTests : State → List Test
+frameTests s = badState s ∷ []
+
+abbrev pub frameNumber : State → ℕ
+frameNumber s = first (frameTests s)
+
+abbrev pub newFrame : State → Answer
+newFrame s = answered (frameNumber s) s (frameStep s) 0

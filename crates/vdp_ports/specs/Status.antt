@@ -1,0 +1,34 @@
+-- The status word: document 01, Ports.
+use Prim.Native.Nat.{ℕ, _+_}
+use mathlib.Core.Bool.{Bool, cond}
+use mathlib.Core.List.{List, [], _∷_}
+use Rattle.vdp_state.specs.declared.answer.Answer.{Answer}
+use Rattle.vdp_state.specs.declared.state.State.{State}
+use Rattle.vdp_state.specs.declared.state.Step.{Step}
+use Rattle.vdp_state.specs.declared.state.Store.the-variants.{Nothing}
+use Rattle.vdp_state.specs.Answer.{Test, first, answered}
+use Rattle.vdp_state.specs.State.{withPort}
+use Rattle.vdp_ports.specs.Data.{settled}
+use Rattle.vdp_ports.specs.Refusal.{badState, busyAtStatus, filling}
+
+-- a number where a flag is set
+abbrev pub flag : Bool → ℕ → ℕ
+flag b n = cond b n 0
+
+-- "3600h, plus 40h overflow, 20h collision, 2 in kinds 3 and 4, 1 if PAL"
+unfoldable pub statusWord : State → ℕ
+statusWord s =
+    0x3600 + flag (s .control .flags .overflow) 0x40 + flag (s .control .flags .collision) 0x20 + flag (filling s) 2
+    + flag (s .pal) 1
+
+abbrev pub statusStep : State → Step
+statusStep s = record { control = withPort (s .control) (settled (s .control .port)); store = Nothing }
+
+abbrev pub statusTests : State → List Test
+statusTests s = badState s ∷ busyAtStatus s ∷ []
+
+abbrev pub statusNumber : State → ℕ
+statusNumber s = first (statusTests s)
+
+abbrev pub statusRead : State → Answer
+statusRead s = answered (statusNumber s) s (statusStep s) (statusWord s)

@@ -1,0 +1,64 @@
+// The status word (document 01, Ports).
+ghost use mathlib.Core.Path.{_≡_};
+ghost use Rattle.vdp_ports.specs.Status.{flag as flagged, statusWord, statusStep, statusNumber, statusRead};
+use crate::refusal::filling;
+use crate::refusal::transferring;
+use vdp_state::answer::Answer;
+use vdp_state::answer::BAD_STATE;
+use vdp_state::answer::BUSY;
+use vdp_state::answer::DONE;
+use vdp_state::answer::answered;
+use vdp_state::good::good;
+use vdp_state::state::State;
+use vdp_state::state::Step;
+use vdp_state::state::Store;
+
+fn flag(set: bool, n: u8) -> u8
+    ensures { λ r. ⌜ r ≡ flagged set n ⌝ }
+{
+    if set { n } else { 0 }
+}
+
+// The status word of a state.
+pub fn status_word(s: State) -> u16
+    ensures { λ r. ⌜ r ≡ statusWord s ⌝ }
+{
+    let flags = s.control.flags;
+    let dma = filling(s);
+    let overflow = flag(flags.overflow, 0x40) as u16;
+    let collision = flag(flags.collision, 0x20) as u16;
+    let busy = flag(dma, 2) as u16;
+    let pal = flag(s.pal, 1) as u16;
+    0x3600 + overflow + collision + busy + pal
+}
+
+// What a status read decides.
+pub fn status_step(s: State) -> Step
+    ensures { λ r. ⌜ r ≡ statusStep s ⌝ }
+{
+    let mut port = s.control.port;
+    port.pending = false;
+    let mut control = s.control;
+    control.port = port;
+    Step {
+        control,
+        store: Store::Nothing,
+    }
+}
+
+// The number that a status read answers.
+pub fn status_number(s: State) -> u8
+    ensures { λ r. ⌜ r ≡ statusNumber s ⌝ }
+{
+    if !good(s) {
+        return BAD_STATE;
+    }
+    if transferring(s) { BUSY } else { DONE }
+}
+
+// Reads the status word.
+pub fn status_read(s: State) -> Answer
+    ensures { λ r. ⌜ r ≡ statusRead s ⌝ }
+{
+    answered(status_number(s), s, status_step(s), status_word(s) as u32)
+}

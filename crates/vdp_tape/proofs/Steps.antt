@@ -1,0 +1,86 @@
+-- Recorded calls of one step, and loops that record or undo steps.
+use Prim.Native.Nat.{ℕ, zero, suc, _+_, _-_, _*_, _<_, _≤_}
+use mathlib.Core.Path.{_≡_, refl, sym, ap, ap₂, subst, _∙_}
+use mathlib.Core.Bool.{Bool, true, false, cond, not, _&&_, _||_}
+use mathlib.Core.List.{List, [], _∷_}
+use native.Mathlib.Omega.{arith}
+use borrow.Author.Tests.{ne-eqb, ltb-false}
+use lib.Dec.{eqb, ltb}
+use lib.ListN.{length, take, drop}
+use Rattle.vdp_state.specs.declared.state.State.{State}
+use Rattle.vdp_state.specs.declared.state.Step.{Step}
+use Rattle.vdp_state.specs.declared.state.Store.{Store}
+use Rattle.vdp_state.specs.Answer.{Test, first}
+use Rattle.vdp_state.specs.Cell.{perform, undoing, present, storedIn}
+use Rattle.vdp_state.specs.Good.{good}
+use Rattle.vdp_state.specs.State.{Chip, chip}
+use Rattle.vdp_dma.proofs.Accepted.{cond-zero, none}
+use Rattle.vdp_tape.specs.Number.{capacity, withTape}
+use Rattle.vdp_tape.specs.Record.{stepOf, goodRecord, recordAt}
+use Rattle.vdp_tape.specs.Recorder.{Recorder, recorder, recordStep, recordSteps, Reply, replied, recordedBy, oneStep, beside}
+use Rattle.vdp_tape.specs.StepBack.{topGood, undo, backNumber}
+use Rattle.vdp_tape.proofs.Numbers.{recorded-number}
+
+pub empty : (l : List ℕ) → length l ≡ 0 → l ≡ []
+empty [] e = refl
+empty (x ∷ l) e = absurd (let bad : ⊥ = omega arith in bad)
+
+-- a recorded call of one step is made by its plain form's number, result and step
+pub one-recorded : (tests : List Test) (result : ℕ) (step : Chip → Step) (r : Recorder) (plain w : ℕ) (t : Step) → plain ≡ first tests → w ≡ result → t ≡ step (r .chip) → oneStep plain w r t ≡ recordedBy (record { tests = tests; result = result; steps = 1; step = step }) r
+one-recorded tests result step r plain w t p q e =
+    ap (λ (n : ℕ). oneStep n w r t) p ∙ ap₂ (λ (k : ℕ) (x : Step). oneStep (first tests) k r x) q e
+    ∙ ap (λ (n : ℕ). replied n result r (recordStep r (step (r .chip)))) (sym (recorded-number tests (r .count) (capacity (r .tape)) 1))
+
+-- a step that neither stores to VRAM nor keeps a VRAM word is recorded alike beside any VRAM
+module _ (vram : List ℕ) (s : State) (tape : List ℕ) (count : ℕ) (t : Step) (kept : present (chip s []) (t .store) ≡ present (chip s vram) (t .store)) (stays : storedIn vram (t .store) ≡ vram) where
+  pub beside-vram : (plain result : ℕ) → beside vram (oneStep plain result (recorder s [] tape count) t) ≡ oneStep plain result (recorder s vram tape count) t
+  unfolding recordStep perform undoing
+  beside-vram plain result = by-number (eqb (withTape plain (ltb (capacity tape) count) (ltb (capacity tape - count) 1)) 0) refl
+    where
+      by-number : (b : Bool) → eqb (withTape plain (ltb (capacity tape) count) (ltb (capacity tape - count) 1)) 0 ≡ b → beside vram (oneStep plain result (recorder s [] tape count) t) ≡ oneStep plain result (recorder s vram tape count) t
+      by-number true e = simp (e, kept, stays)
+      by-number false e = simp e
+
+-- ---- loops
+pub record-turn : (step : Chip → Step) (n i : ℕ) (r : Recorder) → i < n → recordSteps step (n - i) r ≡ recordSteps step (n - (i + 1)) (recordStep r (step (r .chip)))
+record-turn step n i r h = ap (λ (k : ℕ). recordSteps step k r) (let e : n - i ≡ suc (n - (i + 1)) = omega arith in e)
+
+pub record-end : (step : Chip → Step) (n i : ℕ) (r : Recorder) → n ≤ i → recordSteps step (n - i) r ≡ r
+record-end step n i r h = ap (λ (k : ℕ). recordSteps step k r) (let e : n - i ≡ 0 = omega arith in e)
+
+pub record-start : (step : Chip → Step) (n : ℕ) (r : Recorder) → recordSteps step (n - 0) r ≡ recordSteps step n r
+record-start step n r = ap (λ (k : ℕ). recordSteps step k r) (let e : n - 0 ≡ n = omega arith in e)
+
+module _ (tape : List ℕ) (top left : ℕ) where
+  -- the part of a tape that a record is
+  pub record-part : take (32 * (top - 1) + 32 - 32 * (top - 1)) (drop (32 * (top - 1)) tape) ≡ recordAt tape (top - 1)
+  record-part = ap (λ (k : ℕ). take k (drop (32 * (top - 1)) tape)) (let e : 32 * (top - 1) + 32 - 32 * (top - 1) ≡ 32 = omega arith in e)
+
+  one-less : 0 < left → left ≡ suc (left - 1)
+  one-less h = omega arith
+
+  pub undo-turn : (c c′ : Chip) → 0 < left → c′ ≡ perform c (stepOf (recordAt tape (top - 1))) → undo tape (top - 1) (left - 1) c′ ≡ undo tape top left c
+  undo-turn c c′ h e = ap (undo tape (top - 1) (left - 1)) e ∙ sym (ap (λ (k : ℕ). undo tape top k c) (one-less h))
+
+  pub good-turn : 0 < left → topGood tape top left ≡ (goodRecord (recordAt tape (top - 1)) && topGood tape (top - 1) (left - 1))
+  good-turn h = ap (topGood tape top) (one-less h)
+
+-- ---- refused and done
+module _ (result : ℕ) (before after : Recorder) where
+  pub replied-refused : (n m : ℕ) → n ≡ m → (n ≡ 0 → ⊥) → record { number = n; result = 0; recorder = before } ≡ replied m result before after
+  replied-refused n m e h = sym (simp (ne-eqb n 0 h)) ∙ ap (λ (k : ℕ). replied k result before after) e
+
+  pub replied-done : (n m : ℕ) → n ≡ m → n ≡ 0 → record { number = 0; result = result; recorder = after } ≡ replied m result before after
+  replied-done n m e z = sym (simp (sym e ∙ z))
+
+-- a step back that is not refused has its records on the tape
+pub back-accepted : (r : Recorder) (k : ℕ) → backNumber r k ≡ 0 → (k ≤ r .count) × (r .count ≤ capacity (r .tape))
+back-accepted r k e =
+    let over = ltb (capacity (r .tape)) (r .count) in
+    let vram = not (eqb (length (r .chip .vram)) 65536) in
+    let one = cond-zero (not (good (r .chip .state)) || false) 1 _ (omega arith) e in
+    let two = cond-zero (vram || (over || false)) 2 _ (omega arith) (one .1) in
+    let ten = cond-zero (ltb (r .count) k || false) 10 _ (omega arith) (two .1) in (
+      ltb-false (r .count) k (none (ltb (r .count) k) false (ten .0) .0),
+      ltb-false (capacity (r .tape)) (r .count) (none over false (none vram (over || false) (two .0) .1) .0),
+    )

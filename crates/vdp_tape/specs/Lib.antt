@@ -1,0 +1,7 @@
+pub mod Book
+pub mod Demand
+pub mod Number
+pub mod Record
+pub mod Recorded
+pub mod Recorder
+pub mod StepBack

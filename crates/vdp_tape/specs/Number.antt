@@ -1,0 +1,27 @@
+-- What the tape adds to a call's refusals: document 01, Numbers a call may answer, The tape.
+use Prim.Native.Nat.{ℕ, _-_, _/_}
+use mathlib.Core.Bool.{Bool, cond}
+use mathlib.Core.List.{List, _∷_}
+use lib.Dec.{eqb, ltb}
+use lib.ListN.{length}
+use Rattle.vdp_state.specs.Answer.{Test, gives, first}
+
+-- "Records of 32 bytes; capacity is length / 32."
+abbrev pub capacity : List ℕ → ℕ
+capacity tape = length tape / 32
+
+-- 2: "tape count over capacity"
+abbrev pub overCapacity : ℕ → ℕ → Test
+overCapacity count room = gives 2 (ltb room count)
+
+-- 6: "fewer free records than steps to be made"
+abbrev pub tapeFull : ℕ → ℕ → ℕ → Test
+tapeFull count room steps = gives 6 (ltb (room - count) steps)
+
+-- the tests of a recorded call: those of its plain form, and these two
+abbrev pub recordedNumber : List Test → ℕ → ℕ → ℕ → ℕ
+recordedNumber tests count room steps = first (overCapacity count room ∷ tapeFull count room steps ∷ tests)
+
+-- the same number, from that of the plain form: 2 comes right after 1 in the order, and 6 last
+abbrev pub withTape : ℕ → Bool → Bool → ℕ
+withTape plain over full = cond (eqb plain 1) 1 (cond over 2 (cond (eqb plain 0) (cond full 6 0) plain))

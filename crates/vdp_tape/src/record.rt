@@ -1,0 +1,231 @@
+// A tape record (document 01, The tape): the step that undoes a step, in 32 bytes.
+ghost use mathlib.Core.Path.{_≡_};
+ghost use Prim.Native.Nat.{_+_, _*_};
+ghost use Rattle.vdp_tape.specs.Record.{cellOf, storeOf, bit as bitOf, recordOf, twoAt, threeAt, stepOf, same as sameBytes, goodRecord};
+ghost use Rattle.vdp_state.specs.Range.{goodStore};
+use vdp_state::cell::byte_at;
+use vdp_state::cell::joined;
+use vdp_state::colour::colour_word;
+use vdp_state::good::control_good;
+use vdp_state::state::Control;
+use vdp_state::state::Dma;
+use vdp_state::state::Flags;
+use vdp_state::state::Port;
+use vdp_state::state::Step;
+use vdp_state::state::Store;
+
+// A cell's kind, place and content, as a record has them.
+pub struct Cell {
+    pub kind: u8,
+    pub place: u16,
+    pub content: u16,
+}
+
+fn cell_of(store: Store) -> Cell
+    ensures { λ r. ⌜ r ≡ cellOf store ⌝ }
+{
+    match store {
+        Store::Nothing => Cell {
+            kind: 0,
+            place: 0,
+            content: 0,
+        },
+        Store::Vram(place, w) => Cell {
+            kind: 1,
+            place,
+            content: w,
+        },
+        Store::Cram(i, w) => Cell {
+            kind: 2,
+            place: i as u16,
+            content: w,
+        },
+        Store::Vsram(i, w) => Cell {
+            kind: 3,
+            place: i as u16,
+            content: w,
+        },
+        Store::Register(i, b) => Cell {
+            kind: 4,
+            place: i as u16,
+            content: b as u16,
+        },
+    }
+}
+
+fn store_of(c: Cell) -> Store
+    ensures { λ r. ⌜ r ≡ storeOf c ⌝ }
+{
+    let kind = c.kind;
+    let index = (c.place % 256) as u8;
+    match kind {
+        1 => Store::Vram(c.place, c.content),
+        2 => Store::Cram(index, c.content),
+        3 => Store::Vsram(index, c.content),
+        4 => Store::Register(index, (c.content % 256) as u8),
+        _ => Store::Nothing,
+    }
+}
+
+fn bit(b: bool) -> u8
+    ensures { λ r. ⌜ r ≡ bitOf b ⌝ }
+{
+    if b { 1 } else { 0 }
+}
+
+// The sprite flags as a byte.
+fn flag_byte(f: Flags) -> u8
+    ensures { λ r. ⌜ r ≡ bitOf (f .overflow) + 2 * bitOf (f .collision) ⌝ }
+{
+    if f.overflow {
+        if f.collision { 3 } else { 1 }
+    } else {
+        if f.collision { 2 } else { 0 }
+    }
+}
+
+// The 32 bytes of a step.
+pub fn record_of(t: Step) -> [u8; 32]
+    ensures { λ r. ⌜ r ≡ recordOf t ⌝ }
+{
+    let store = t.store;
+    let c = cell_of(store);
+    let p = t.control.port;
+    let d = t.control.dma;
+    let pending = bit(p.pending);
+    let flags = flag_byte(t.control.flags);
+    [
+        1,
+        0,
+        32,
+        c.kind,
+        (c.place / 256) as u8,
+        (c.place % 256) as u8,
+        (c.content / 256) as u8,
+        (c.content % 256) as u8,
+        (p.address / 256) as u8,
+        (p.address % 256) as u8,
+        p.code,
+        pending,
+        d.kind,
+        (d.remaining / 65536 % 256) as u8,
+        (d.remaining / 256 % 256) as u8,
+        (d.remaining % 256) as u8,
+        (d.source / 65536 % 256) as u8,
+        (d.source / 256 % 256) as u8,
+        (d.source % 256) as u8,
+        d.fill,
+        flags,
+        0,
+        0,
+        0,
+        0,
+        0,
+        0,
+        0,
+        0,
+        0,
+        0,
+        0,
+    ]
+}
+
+fn two_at(bytes: &[u8], i: u8) -> u16
+    ensures { λ r. ⌜ r ≡ twoAt (now (bytes .entry)) i ⌝ }
+{
+    let at = i as usize;
+    joined(byte_at(bytes, at), byte_at(bytes, at + 1))
+}
+
+fn joined_three(high: u8, middle: u8, low: u8) -> u32
+    ensures { λ r. ⌜ r ≡ high * 65536 + middle * 256 + low ⌝ }
+{
+    (high as u32) * 65536 + (middle as u32) * 256 + (low as u32)
+}
+
+fn three_at(bytes: &[u8], i: u8) -> u32
+    ensures { λ r. ⌜ r ≡ threeAt (now (bytes .entry)) i ⌝ }
+{
+    let at = i as usize;
+    joined_three(
+        byte_at(bytes, at),
+        byte_at(bytes, at + 1),
+        byte_at(bytes, at + 2),
+    )
+}
+
+fn control_of(bytes: &[u8]) -> Control
+    ensures { λ r. ⌜ r ≡ stepOf (now (bytes .entry)) .control ⌝ }
+{
+    let flags = byte_at(bytes, 20);
+    Control {
+        port: Port {
+            address: two_at(bytes, 8),
+            code: byte_at(bytes, 10),
+            pending: byte_at(bytes, 11) == 1,
+        },
+        dma: Dma {
+            kind: byte_at(bytes, 12),
+            remaining: three_at(bytes, 13),
+            source: three_at(bytes, 16),
+            fill: byte_at(bytes, 19),
+        },
+        flags: Flags {
+            overflow: flags % 2 == 1,
+            collision: flags / 2 % 2 == 1,
+        },
+    }
+}
+
+// The step that 32 bytes read as.
+pub fn step_of(bytes: &[u8]) -> Step
+    ensures { λ r. ⌜ r ≡ stepOf (now (bytes .entry)) ⌝ }
+{
+    let cell = Cell {
+        kind: byte_at(bytes, 3),
+        place: two_at(bytes, 4),
+        content: two_at(bytes, 6),
+    };
+    Step {
+        control: control_of(bytes),
+        store: store_of(cell),
+    }
+}
+
+fn same(a: &[u8], b: &[u8]) -> bool
+    ensures { λ r. ⌜ r ≡ sameBytes (now (a .entry)) (now (b .entry)) ⌝ }
+{
+    if a.len() != b.len() {
+        return false;
+    }
+    let mut i = 0;
+    while i < a.len() {
+        if a[i] != b[i] {
+            return false;
+        }
+        i += 1;
+    }
+    true
+}
+
+fn store_good(store: Store) -> bool
+    ensures { λ r. ⌜ r ≡ goodStore store ⌝ }
+{
+    match store {
+        Store::Nothing => true,
+        Store::Vram(place, w) => (place % 2 == 0) & ((place as u32) < 65536) & ((w as u32) < 65536),
+        Store::Cram(i, w) => (i < 64) & (colour_word(w) == w),
+        Store::Vsram(i, w) => (i < 40) & (w <= 0x3ff),
+        Store::Register(i, b) => (i < 24) & ((b as u16) < 256),
+    }
+}
+
+// Whether a record keeps the layout and its ranges.
+pub fn good_record(bytes: &[u8]) -> bool
+    ensures { λ r. ⌜ r ≡ goodRecord (now (bytes .entry)) ⌝ }
+{
+    let t = step_of(bytes);
+    let again = record_of(t);
+    let store = t.store;
+    same(&again, bytes) & control_good(t.control) & store_good(store)
+}

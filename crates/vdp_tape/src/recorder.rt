@@ -1,0 +1,78 @@
+// A step recorded and made (document 01, The tape).
+ghost use mathlib.Core.Path.{_≡_};
+ghost use Prim.Native.Nat.{_+_, _<_, _≤_};
+ghost use lib.ListN.{length};
+ghost use lib.Seq.{sets};
+ghost use Rattle.vdp_tape.specs.Number.{capacity};
+ghost use Rattle.vdp_tape.specs.Recorder.{recorder, recordStep, reply, replied};
+use crate::number::RECORD_SIZE;
+use crate::record::record_of;
+use vdp_state::answer::DONE;
+use vdp_state::cell::perform;
+use vdp_state::cell::undoing;
+use vdp_state::state::State;
+use vdp_state::state::Step;
+
+// The answer of a recorded call and of a step back: as the plain one, with the count of records.
+pub struct Recorded {
+    pub number: u8,
+    pub result: u32,
+    pub count: usize,
+    pub state: State,
+}
+
+fn put_record(tape: &mut [u8], at: usize, bytes: &[u8])
+    requires { ⌜ at + length (now bytes) ≤ length (now tape) ⌝ }
+    ensures { λ _. ⌜ now (tape .exit) ≡ sets (now (tape .entry)) at (now (bytes .entry)) ⌝ }
+{
+    let mut i = 0;
+    while i < bytes.len() {
+        tape[at + i] = bytes[i];
+        i += 1;
+    }
+}
+
+// Writes the record of a step at the count, and makes the step.
+pub(crate) fn record_step(
+    s: State,
+    vram: &mut [u8],
+    tape: &mut [u8],
+    count: usize,
+    t: Step,
+) -> State
+    requires { ⌜ count < capacity (now tape) ⌝ }
+    ensures { λ r. ⌜ recorder r (now (vram .exit)) (now (tape .exit)) (count + 1) ≡ recordStep (recorder s (now (vram .entry)) (now (tape .entry)) count) t ⌝ }
+{
+    let bytes = record_of(undoing(s, vram, t));
+    put_record(tape, RECORD_SIZE * count, &bytes);
+    perform(s, vram, t)
+}
+
+// A recorded call of one step.
+pub(crate) fn record_one(
+    number: u8,
+    s: State,
+    vram: &mut [u8],
+    tape: &mut [u8],
+    count: usize,
+    t: Step,
+    result: u32,
+) -> Recorded
+    requires { ⌜ (number ≡ 0 → count < capacity (now tape)) ⌝ }
+    ensures { λ r. ⌜ reply r (now (vram .exit)) (now (tape .exit)) ≡ replied number result (recorder s (now (vram .entry)) (now (tape .entry)) count) (recordStep (recorder s (now (vram .entry)) (now (tape .entry)) count) t) ⌝ }
+{
+    if number != DONE {
+        return Recorded {
+            number,
+            result: 0,
+            count,
+            state: s,
+        };
+    }
+    Recorded {
+        number: DONE,
+        result,
+        count: count + 1,
+        state: record_step(s, vram, tape, count, t),
+    }
+}

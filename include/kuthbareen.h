@@ -1,0 +1,129 @@
+/* Kuthbareen for C: the VDP (mode 5) of the Sega Genesis, access by access, as document 01 defines it.
+ *
+ * Hold one kuthbareen_state and 65,536 bytes of VRAM for each chip and lend both to every call. Link with
+ * libkuthbareen.a, which examples/build makes.
+ *
+ * What a caller owes:
+ *   - a state comes from kuthbareen_fresh, or has every field set; its bools hold 0 or 1, as C keeps them;
+ *   - a pointer with a count is that many bytes and is never NULL, also where the count is 0;
+ *   - memory that a call may write (no const) overlaps nothing else that the call is lent.
+ * Nothing else: any numbers and any counts are answered, and a refused call leaves all it was lent as it came.
+ * Compare states field by field; the bytes between fields are not kept. */
+#ifndef KUTHBAREEN_H
+#define KUTHBAREEN_H
+
+#include <stdbool.h>
+#include <stddef.h>
+#include <stdint.h>
+
+#ifdef __cplusplus
+extern "C" {
+#endif
+
+/* The numbers a call may answer. Where several would do, a call answers the first of 1, 2, 3, 10, 8, 5, 4, 9, 7, 6. */
+enum {
+    KUTHBAREEN_DONE = 0,            /* the call was made */
+    KUTHBAREEN_BAD_STATE = 1,       /* the state is not GOOD */
+    KUTHBAREEN_BAD_BUFFER = 2,      /* a buffer has a wrong size */
+    KUTHBAREEN_BUSY = 3,            /* DMA is at work */
+    KUTHBAREEN_NOT_MODELLED = 4,    /* the registers ask for what is not modelled */
+    KUTHBAREEN_NO_SUCH_PLACE = 5,   /* no such line, pattern or row */
+    KUTHBAREEN_TAPE_FULL = 6,       /* fewer free records than steps to be made */
+    KUTHBAREEN_SOURCE_NOT_LENT = 7, /* a word to be moved lies in no lent memory */
+    KUTHBAREEN_BAD_RECORD = 8,      /* a record of the tape breaks the layout */
+    KUTHBAREEN_TABLE_PAST_END = 9,  /* a table read in drawing would pass FFFFh */
+    KUTHBAREEN_NOTHING_THERE = 10   /* a step back of more than the count */
+};
+
+/* The sizes that calls ask for, in bytes. */
+enum {
+    KUTHBAREEN_VRAM_SIZE = 65536,
+    KUTHBAREEN_RAM_SIZE = 65536,
+    KUTHBAREEN_MOST_CARTRIDGE = 4194304,
+    KUTHBAREEN_ROW_SIZE = 8
+};
+
+/* The address and code registers, and whether the second half of a command is awaited. */
+typedef struct {
+    uint16_t address;
+    uint8_t code; /* CD5-CD0 */
+    bool pending;
+} kuthbareen_port;
+
+/* DMA at work. */
+typedef struct {
+    uint8_t kind;       /* 0 idle, 1 fill waiting, 2 transfer, 3 fill, 4 copy */
+    uint32_t remaining; /* units: words of a transfer, bytes of a fill or copy */
+    uint32_t source;    /* a byte address: of the 68000 in a transfer, of VRAM in a copy */
+    uint8_t fill;       /* the fill byte */
+} kuthbareen_dma;
+
+/* The sprite flags of the status word. */
+typedef struct {
+    bool overflow;
+    bool collision;
+} kuthbareen_flags;
+
+/* The port, DMA and the flags. */
+typedef struct {
+    kuthbareen_port port;
+    kuthbareen_dma dma;
+    kuthbareen_flags flags;
+} kuthbareen_control;
+
+/* The chip's state, without VRAM. */
+typedef struct {
+    uint8_t registers[24];
+    uint16_t cram[64];  /* colours, bits of 0EEEh only */
+    uint16_t vsram[40]; /* vertical scrolls, at most 3FFh */
+    kuthbareen_control control;
+    bool pal;
+} kuthbareen_state;
+
+/* What a call on a lent state gives back. */
+typedef struct {
+    uint8_t number;  /* one of the numbers above */
+    uint32_t result; /* the word read or the units made, else 0 */
+} kuthbareen_answer;
+
+/* A fresh state: all zero, PAL as asked. */
+kuthbareen_state kuthbareen_fresh(bool pal);
+
+/* Writes a word to the control port: a register, or the first or second half of a command. */
+kuthbareen_answer kuthbareen_control_write(kuthbareen_state *state, uint16_t word);
+
+/* Writes a byte to the control port: it stands in both halves of the word. */
+kuthbareen_answer kuthbareen_control_write_byte(kuthbareen_state *state, uint8_t byte);
+
+/* Writes a word to the data port. */
+kuthbareen_answer kuthbareen_data_write(kuthbareen_state *state, uint8_t *vram, size_t vram_size, uint16_t word);
+
+/* Writes a byte to the data port: it stands in both halves of the word. */
+kuthbareen_answer kuthbareen_data_write_byte(kuthbareen_state *state, uint8_t *vram, size_t vram_size, uint8_t byte);
+
+/* Reads a word from the data port: the result. */
+kuthbareen_answer kuthbareen_data_read(kuthbareen_state *state, const uint8_t *vram, size_t vram_size);
+
+/* Reads the status word: the result. */
+kuthbareen_answer kuthbareen_status_read(kuthbareen_state *state);
+
+/* Begins a new frame: clears the sprite flags. */
+kuthbareen_answer kuthbareen_new_frame(kuthbareen_state *state);
+
+/* Makes DMA units, at most as many as the budget: the result says how many. A transfer finds its words in the
+ * cartridge, and from E00000h up in work RAM. */
+kuthbareen_answer kuthbareen_run(kuthbareen_state *state, uint8_t *vram, size_t vram_size, const uint8_t *cartridge,
+                                 size_t cartridge_size, const uint8_t *ram, size_t ram_size, uint32_t budget);
+
+/* The parts of a colour word, given register 0: 256 x blue + 16 x green + red, each 0 to 7. Never refused. */
+uint32_t kuthbareen_colour_parts(uint16_t word, uint8_t register0);
+
+/* Writes the eight unflipped pixels of a pattern's row, left to right, and answers 0, 2 or 5. */
+uint8_t kuthbareen_pattern_row(const uint8_t *vram, size_t vram_size, uint16_t name, uint8_t row, uint8_t *pixels,
+                               size_t pixels_size);
+
+#ifdef __cplusplus
+}
+#endif
+
+#endif

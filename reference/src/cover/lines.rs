@@ -1,0 +1,246 @@
+//! Counts of the drawing rules: planes, window, scroll, sprites, and what is in front.
+
+use super::{names, Before, Tally};
+use crate::planes::{self, Dot, Plane, View};
+use crate::replay::Machine;
+use crate::sprites::{self, Kept, Walk};
+use crate::state::{State, Vram};
+
+const FRONTS: [&str; 7] = [
+    "front: high sprite",
+    "front: high A",
+    "front: high B",
+    "front: low sprite",
+    "front: low A",
+    "front: low B",
+    "front: backdrop",
+];
+
+const RULES: &[&str] = &[
+    "blanked line",
+    "line at width 320",
+    "line at width 256",
+    "line 223",
+    "line 239",
+    "window by line, above",
+    "window by line, below",
+    "window by column, left",
+    "window by column, right",
+    "window and plane A on one line",
+    "window at width 256",
+    "vertical scroll, whole",
+    "vertical scroll, by two cells",
+    "line while DMA runs",
+    "walk ends at link 0",
+    "walk ends at a link too great",
+    "walk ends at a link just too great",
+    "walk goes to the last sprite",
+    "walk ends after all visits",
+    "walk ends by overflow",
+    "as many sprites as fit on a line",
+    "overflow flag set",
+    "collision flag set",
+    "flag set before stays",
+    "masked sprite",
+    "first sprite masks",
+    "mask off this line ignored",
+    "sprite cut short by used-up pixels",
+    "sprite with no pixels left",
+    "sprite used up while off the screen",
+    "sprite partly left of the screen",
+    "sprite partly right of the screen",
+    "sprite flipped across",
+    "sprite flipped down",
+    "sprite name turns past 2,047",
+    "sprite met twice",
+    "early low sprite keeps a later high one out",
+    "low sprite under a high plane",
+];
+
+pub fn rules() -> Vec<String> {
+    let mut rules = names(RULES);
+    rules.extend(FRONTS.iter().map(|front| front.to_string()));
+    rules.extend((0..4).map(|mode| format!("horizontal scroll mode {mode}")));
+    rules.extend((1..5).map(|cells| format!("sprite {cells} cells wide")));
+    rules.extend((1..5).map(|cells| format!("sprite {cells} cells high")));
+    for (wide, high) in [(32, 32), (32, 64), (32, 128), (64, 32), (64, 64), (128, 32)] {
+        rules.push(format!("plane {wide} by {high}"));
+    }
+    rules
+}
+
+pub fn count(tally: &mut Tally, before: &Before, after: &Machine) {
+    let machine = &before.machine;
+    let Ok(vram) = <&Vram>::try_from(machine.vram.lent()) else {
+        return;
+    };
+    let view = View { state: &machine.state, vram, line: before.command.c as usize };
+    if machine.state.registers[1] & 0x40 == 0 {
+        tally.meet("blanked line");
+        return;
+    }
+    tally.meet_if(machine.state.running(), "line while DMA runs");
+    shape(tally, &view);
+    windows(tally, &view);
+    if let Ok(walk) = sprites::walk(&view) {
+        walked(tally, &view, &walk);
+        for (place, kept) in walk.kept.iter().enumerate() {
+            kept_sprite(tally, &view, kept, place);
+        }
+        let dots = sprites::layer(&view, &walk).0;
+        early_and_late(tally, &view, &walk);
+        fronts(tally, &view, &dots);
+    }
+    flags(tally, &machine.state, &after.state);
+}
+
+fn shape(tally: &mut Tally, view: &View) {
+    let registers = &view.state.registers;
+    tally.meet_if(view.wide(), "line at width 320");
+    tally.meet_if(!view.wide(), "line at width 256");
+    tally.meet_if(view.line == 223, "line 223");
+    tally.meet_if(view.line == 239, "line 239");
+    tally.meet(&format!("horizontal scroll mode {}", registers[11] & 3));
+    tally.meet_if(registers[11] & 4 == 0, "vertical scroll, whole");
+    tally.meet_if(registers[11] & 4 != 0, "vertical scroll, by two cells");
+    if let Some((wide, high)) = planes::plane_size(view.state) {
+        tally.meet(&format!("plane {wide} by {high}"));
+    }
+}
+
+fn windows(tally: &mut Tally, view: &View) {
+    let (across, down) = (view.state.registers[17], view.state.registers[18]);
+    let by_line = planes::window_by_line(view);
+    tally.meet_if(by_line && down < 0x80, "window by line, above");
+    tally.meet_if(by_line && down >= 0x80, "window by line, below");
+    let columns = (0..view.width()).filter(|x| planes::window_by_column(view, *x)).count();
+    tally.meet_if(columns > 0 && across < 0x80, "window by column, left");
+    tally.meet_if(columns > 0 && across >= 0x80, "window by column, right");
+    let part = !by_line && columns > 0 && columns < view.width();
+    tally.meet_if(part, "window and plane A on one line");
+    let any = by_line || columns > 0;
+    tally.meet_if(any && !view.wide(), "window at width 256");
+}
+
+fn walked(tally: &mut Tally, view: &View, walk: &Walk) {
+    let all = walk.visits as usize == sprites::table_limit(view);
+    tally.meet_if(walk.overflow, "walk ends by overflow");
+    tally.meet_if(!walk.overflow && all, "walk ends after all visits");
+    let fits = walk.kept.len() == sprites::line_limit(view);
+    tally.meet_if(fits && !walk.overflow, "as many sprites as fit on a line");
+    if let (Some(last), false) = (last_link(view, walk), walk.overflow || all) {
+        tally.meet_if(last == 0, "walk ends at link 0");
+        tally.meet_if(last != 0, "walk ends at a link too great");
+        let just = last == sprites::table_limit(view);
+        tally.meet_if(just, "walk ends at a link just too great");
+    }
+    let masks = walk.kept.first().is_some_and(|kept| kept.masked);
+    tally.meet_if(masks, "first sprite masks");
+    let mut seen = Vec::new();
+    for number in numbers(view, walk) {
+        tally.meet_if(seen.contains(&number), "sprite met twice");
+        let last = number.0 + 1 == sprites::table_limit(view);
+        tally.meet_if(last, "walk goes to the last sprite");
+        let off_line = !sprites::on_line(&number.1, view.line);
+        tally.meet_if(off_line && number.1.x == 0, "mask off this line ignored");
+        seen.push(number);
+    }
+}
+
+/// The sprites visited, each with its number.
+fn numbers(view: &View, walk: &Walk) -> Vec<(usize, sprites::Sprite)> {
+    let mut list = Vec::new();
+    let mut number = 0;
+    for _ in 0..walk.visits {
+        if let Ok(sprite) = sprites::entry(view, number) {
+            list.push((number, sprite));
+            number = sprite.link;
+        }
+    }
+    list
+}
+
+fn last_link(view: &View, walk: &Walk) -> Option<usize> {
+    numbers(view, walk).last().map(|(_, sprite)| sprite.link)
+}
+
+fn kept_sprite(tally: &mut Tally, view: &View, kept: &Kept, place: usize) {
+    let sprite = &kept.sprite;
+    let wide = 8 * sprite.cells_wide;
+    let right = sprite.x + wide;
+    let edge = 128 + view.width();
+    let short = kept.columns < wide;
+    tally.meet_if(kept.masked && place > 0, "masked sprite");
+    tally.meet_if(short && kept.columns > 0, "sprite cut short by used-up pixels");
+    tally.meet_if(kept.columns == 0, "sprite with no pixels left");
+    let off = right <= 128 || sprite.x >= edge;
+    tally.meet_if(off && kept.columns > 0, "sprite used up while off the screen");
+    tally.meet_if(sprite.x < 128 && right > 128, "sprite partly left of the screen");
+    tally.meet_if(sprite.x < edge && right > edge, "sprite partly right of the screen");
+    let shown = !kept.masked && !off && kept.columns > 0;
+    tally.meet_if(shown && sprite.cell.flip_h, "sprite flipped across");
+    tally.meet_if(shown && sprite.cell.flip_v, "sprite flipped down");
+    let last = usize::from(sprite.cell.name) + sprite.cells_wide * sprite.cells_high;
+    tally.meet_if(shown && last > 2_048, "sprite name turns past 2,047");
+    if shown {
+        tally.meet(&format!("sprite {} cells wide", sprite.cells_wide));
+        tally.meet(&format!("sprite {} cells high", sprite.cells_high));
+    }
+}
+
+/// Layers of single sprites, to see which ones share a column.
+fn early_and_late(tally: &mut Tally, view: &View, walk: &Walk) {
+    let mut taken = vec![Dot::default(); view.width()];
+    let mut kept_out = false;
+    for kept in &walk.kept {
+        let alone = Walk { visits: 1, overflow: false, kept: vec![*kept] };
+        for (place, dot) in taken.iter_mut().zip(sprites::layer(view, &alone).0) {
+            kept_out |= place.solid() && !place.high && dot.solid() && dot.high;
+            if !place.solid() {
+                *place = dot;
+            }
+        }
+    }
+    tally.meet_if(kept_out, "early low sprite keeps a later high one out");
+}
+
+fn fronts(tally: &mut Tally, view: &View, dots: &[Dot]) {
+    let scroll_a = planes::horizontal_scroll(view, Plane::A).unwrap_or(0);
+    let scroll_b = planes::horizontal_scroll(view, Plane::B).unwrap_or(0);
+    let mut met = [false; 7];
+    let mut under = false;
+    for (x, sprite) in dots.iter().enumerate() {
+        let a = if planes::window_here(view, x) {
+            planes::window_dot(view, x)
+        } else {
+            planes::plane_dot(view, Plane::A, scroll_a, x)
+        };
+        let b = planes::plane_dot(view, Plane::B, scroll_b, x);
+        let layers = [*sprite, a.unwrap_or_default(), b.unwrap_or_default()];
+        met[front(layers)] = true;
+        let high = layers[1..].iter().any(|dot| dot.solid() && dot.high);
+        under |= sprite.solid() && !sprite.high && high;
+    }
+    for (name, met) in FRONTS.iter().zip(met) {
+        tally.meet_if(met, name);
+    }
+    tally.meet_if(under, "low sprite under a high plane");
+}
+
+/// The place in FRONTS of what is seen.
+fn front(layers: [Dot; 3]) -> usize {
+    for (high, from) in [(true, 0), (false, 3)] {
+        for (place, dot) in layers.iter().enumerate() {
+            if dot.solid() && dot.high == high {
+                return from + place;
+            }
+        }
+    }
+    6
+}
+
+fn flags(tally: &mut Tally, then: &State, now: &State) {
+    tally.meet_if(now.overflow && !then.overflow, "overflow flag set");
+    tally.meet_if(now.collision && !then.collision, "collision flag set");
+    tally.meet_if(then.overflow || then.collision, "flag set before stays");
+}

@@ -1,0 +1,201 @@
+//! Counts of the rules of DMA runs, unit by unit, and of step backs.
+
+use super::{names, Before, Tally};
+use crate::dma::{self, Memories};
+use crate::replay::Machine;
+use crate::state::{State, Vram, COPY, FILL, FILL_WAITING, TRANSFER};
+use crate::tape::RECORD_BYTES;
+
+const RULES: &[&str] = &[
+    "run of no units, idle",
+    "run of no units, fill waits",
+    "run of no units, budget 0",
+    "run of no units on a full tape",
+    "run with a half awaited",
+    "budget below the remaining",
+    "budget just the remaining",
+    "budget above the remaining",
+    "run of over 1,000 units",
+    "transfer ends",
+    "fill ends",
+    "copy ends",
+    "transfer unit",
+    "transfer unit to VRAM, swapped",
+    "transfer unit to a colour",
+    "transfer unit to a colour past 7Fh",
+    "transfer unit to a scroll word",
+    "transfer unit to an absent scroll word",
+    "transfer unit that stores nothing",
+    "word from the cartridge",
+    "last word of the cartridge",
+    "word from work RAM",
+    "source turns FFFFFEh to FF0000h",
+    "word at E00000h",
+    "fill unit at an odd address",
+    "fill unit at an even address",
+    "fill unit that stores nothing",
+    "fill unit with step 0",
+    "copy unit",
+    "copy unit from a byte this run stored",
+    "copy source turns past FFFFh",
+    "copy under another code",
+    "unit turns the address past FFFFh",
+    "recorded form",
+    "step back of 0",
+    "step back of 0 over a bad record",
+    "step back of all",
+    "step back of some",
+    "step back within a run",
+    "step back into an ended run",
+    "step back out of a run",
+    "step back over a fill's first word",
+    "undone: nothing stored",
+    "undone: VRAM word",
+    "undone: colour",
+    "undone: scroll",
+    "undone: register",
+    "undone: VRAM word FFFEh",
+    "undone: colour 63",
+    "undone: scroll 39",
+    "undone: register 23",
+    "undone: flag set again",
+    "undone: pending set again",
+];
+
+pub fn rules() -> Vec<String> {
+    names(RULES)
+}
+
+pub fn count_run(tally: &mut Tally, before: &Before) {
+    let state = &before.machine.state;
+    let budget = before.command.c;
+    let units = dma::units(state, budget);
+    if units == 0 {
+        tally.meet_if(state.kind == FILL_WAITING, "run of no units, fill waits");
+        tally.meet_if(state.kind == 0, "run of no units, idle");
+        tally.meet_if(state.running(), "run of no units, budget 0");
+        let full = before.machine.tape.length / RECORD_BYTES == before.machine.count as usize;
+        tally.meet_if(before.taped() && full, "run of no units on a full tape");
+        return;
+    }
+    tally.meet_if(state.pending, "run with a half awaited");
+    tally.meet_if(budget < state.remaining, "budget below the remaining");
+    tally.meet_if(budget == state.remaining, "budget just the remaining");
+    tally.meet_if(budget > state.remaining, "budget above the remaining");
+    tally.meet_if(units > 1_000, "run of over 1,000 units");
+    let ends = units == state.remaining;
+    tally.meet_if(ends && state.kind == TRANSFER, "transfer ends");
+    tally.meet_if(ends && state.kind == FILL, "fill ends");
+    tally.meet_if(ends && state.kind == COPY, "copy ends");
+    each_unit(tally, &before.machine, units);
+}
+
+/// Makes the units again on a copy, looking at the state before each.
+fn each_unit(tally: &mut Tally, machine: &Machine, units: u32) {
+    let mut state = machine.state.clone();
+    let Ok(lent) = <&Vram>::try_from(machine.vram.lent()) else {
+        return;
+    };
+    let mut vram = Box::new(*lent);
+    let memories =
+        Memories { cartridge: machine.cartridge.lent(), work_ram: machine.work_ram.lent() };
+    let mut stored = vec![false; vram.len()];
+    for _ in 0..units {
+        match state.kind {
+            TRANSFER => transfer_unit(tally, &state, memories),
+            FILL => fill_unit(tally, &state),
+            _ => copy_unit(tally, &state, &mut stored),
+        }
+        let next = u32::from(state.address) + u32::from(state.registers[15]);
+        tally.meet_if(next > 0xFFFF, "unit turns the address past FFFFh");
+        dma::unit(&mut state, &mut vram, memories);
+    }
+}
+
+fn transfer_unit(tally: &mut Tally, state: &State, memories: Memories) {
+    tally.meet("transfer unit");
+    let place = state.address / 2 % 64;
+    match state.code & 15 {
+        1 => tally.meet_if(state.address % 2 == 1, "transfer unit to VRAM, swapped"),
+        3 => {
+            tally.meet("transfer unit to a colour");
+            tally.meet_if(state.address > 0x7F, "transfer unit to a colour past 7Fh");
+        }
+        5 => {
+            tally.meet_if(place < 40, "transfer unit to a scroll word");
+            tally.meet_if(place >= 40, "transfer unit to an absent scroll word");
+        }
+        _ => tally.meet("transfer unit that stores nothing"),
+    }
+    let source = state.source;
+    let last = memories.cartridge.len() == source as usize + 2;
+    tally.meet_if(source < 0xE0_0000, "word from the cartridge");
+    tally.meet_if(last, "last word of the cartridge");
+    tally.meet_if(source >= 0xE0_0000, "word from work RAM");
+    tally.meet_if(source == 0xFF_FFFE, "source turns FFFFFEh to FF0000h");
+    tally.meet_if(source == 0xE0_0000, "word at E00000h");
+}
+
+fn fill_unit(tally: &mut Tally, state: &State) {
+    let stores = state.code & 15 == 1;
+    let odd = state.address % 2 == 1;
+    tally.meet_if(stores && odd, "fill unit at an odd address");
+    tally.meet_if(stores && !odd, "fill unit at an even address");
+    tally.meet_if(!stores, "fill unit that stores nothing");
+    tally.meet_if(state.registers[15] == 0, "fill unit with step 0");
+}
+
+fn copy_unit(tally: &mut Tally, state: &State, stored: &mut [bool]) {
+    tally.meet("copy unit");
+    let source = (state.source % 65_536) as usize;
+    let spread = stored.get(source).copied().unwrap_or(false);
+    tally.meet_if(spread, "copy unit from a byte this run stored");
+    tally.meet_if(state.source == 0xFFFF, "copy source turns past FFFFh");
+    tally.meet_if(state.code & 15 != 0, "copy under another code");
+    if let Some(place) = stored.get_mut(usize::from(state.address)) {
+        *place = true;
+    }
+}
+
+pub fn count_back(tally: &mut Tally, before: &Before, after: &Machine) {
+    let (then, now) = (&before.machine.state, &after.state);
+    let (steps, count) = (before.command.c, before.machine.count);
+    if steps == 0 {
+        tally.meet("step back of 0");
+        let at = RECORD_BYTES * (count as usize).saturating_sub(1);
+        let top = before.machine.tape.bytes.get(at).copied();
+        tally.meet_if(count > 0 && top != Some(1), "step back of 0 over a bad record");
+        return;
+    }
+    tally.meet_if(steps == count, "step back of all");
+    tally.meet_if(steps < count, "step back of some");
+    let within = then.running() && now.kind == then.kind && now.remaining > then.remaining;
+    tally.meet_if(within, "step back within a run");
+    tally.meet_if(!then.running() && now.running(), "step back into an ended run");
+    tally.meet_if(then.running() && !now.running(), "step back out of a run");
+    let first_word = then.kind == FILL && now.kind == FILL_WAITING;
+    tally.meet_if(first_word, "step back over a fill's first word");
+    let flag = (now.overflow && !then.overflow) || (now.collision && !then.collision);
+    tally.meet_if(flag, "undone: flag set again");
+    tally.meet_if(now.pending && !then.pending, "undone: pending set again");
+    each_record(tally, before);
+}
+
+fn each_record(tally: &mut Tally, before: &Before) {
+    let bottom = before.machine.count - before.command.c;
+    for record in bottom..before.machine.count {
+        let at = RECORD_BYTES * record as usize + 3;
+        let head = before.machine.tape.bytes.get(at..at + 3).unwrap_or(&[]);
+        match head {
+            [1, ..] => tally.meet("undone: VRAM word"),
+            [2, ..] => tally.meet("undone: colour"),
+            [3, ..] => tally.meet("undone: scroll"),
+            [4, ..] => tally.meet("undone: register"),
+            _ => tally.meet("undone: nothing stored"),
+        }
+        tally.meet_if(head == [1, 0xFF, 0xFE], "undone: VRAM word FFFEh");
+        tally.meet_if(head == [2, 0, 63], "undone: colour 63");
+        tally.meet_if(head == [3, 0, 39], "undone: scroll 39");
+        tally.meet_if(head == [4, 0, 23], "undone: register 23");
+    }
+}

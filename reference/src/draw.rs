@@ -1,0 +1,104 @@
+//! Drawing a line: what is not modelled, and the layers put together
+//! (document 01, Drawing; notes s14, s17).
+
+use crate::answer::Answer;
+use crate::planes::{self, horizontal_scroll, plane_dot, window_dot, Dot, Plane, View};
+use crate::sprites;
+use crate::state::{State, Vram};
+
+/// What drawing a line gives.
+#[derive(Clone, Debug, PartialEq, Eq)]
+pub struct Picture {
+    pub pixels: Vec<u8>,
+    pub visits: u32,
+    pub overflow: bool,
+    pub collision: bool,
+}
+
+pub fn height(state: &State) -> u32 {
+    if state.registers[1] & 0x08 != 0 {
+        240
+    } else {
+        224
+    }
+}
+
+/// The reasons of answer 4, each with a name for the counts of `reference cover`.
+pub fn not_modelled(state: &State) -> Option<&'static str> {
+    let registers = &state.registers;
+    let set = |register: usize, bits: u8| registers[register] & bits != 0;
+    let reasons = [
+        (set(0, 0x01), "register 0 bit 0"),
+        (set(0, 0x08), "register 0 bit 3"),
+        (set(1, 0x80), "register 1 bit 7"),
+        (set(1, 0x01), "register 1 bit 0"),
+        (!set(1, 0x04), "register 1 bit 2 clear"),
+        (set(12, 0x80) != set(12, 0x01), "register 12 bits 7 and 0 differ"),
+        (set(12, 0x0E), "register 12 bits 3-1"),
+        (planes::cells(registers[16]).is_none(), "plane width code 2"),
+        (planes::cells(registers[16] >> 4).is_none(), "plane height code 2"),
+        (too_many_cells(state), "over 4,096 cells"),
+    ];
+    reasons.iter().find(|reason| reason.0).map(|reason| reason.1)
+}
+
+fn too_many_cells(state: &State) -> bool {
+    match planes::plane_size(state) {
+        Some((wide, high)) => wide * high > 4_096,
+        None => false,
+    }
+}
+
+/// A line that is inside the height and modelled.
+pub fn picture(state: &State, vram: &Vram, line: u32) -> Result<Picture, Answer> {
+    let view = View { state, vram, line: line as usize };
+    if state.registers[1] & 0x40 == 0 {
+        Ok(blank(&view))
+    } else {
+        shown(&view)
+    }
+}
+
+fn backdrop(state: &State) -> u8 {
+    state.registers[7] & 0x3F
+}
+
+/// A blanked line visits no sprites.
+fn blank(view: &View) -> Picture {
+    Picture {
+        pixels: vec![backdrop(view.state); view.width()],
+        visits: 0,
+        overflow: false,
+        collision: false,
+    }
+}
+
+fn shown(view: &View) -> Result<Picture, Answer> {
+    let walk = sprites::walk(view)?;
+    let (sprite_dots, collision) = sprites::layer(view, &walk);
+    let scroll_a = horizontal_scroll(view, Plane::A)?;
+    let scroll_b = horizontal_scroll(view, Plane::B)?;
+    let mut pixels = Vec::with_capacity(view.width());
+    for (x, sprite) in sprite_dots.iter().enumerate() {
+        let a = if planes::window_here(view, x) {
+            window_dot(view, x)?
+        } else {
+            plane_dot(view, Plane::A, scroll_a, x)?
+        };
+        let b = plane_dot(view, Plane::B, scroll_b, x)?;
+        pixels.push(front(*sprite, a, b).unwrap_or(backdrop(view.state)));
+    }
+    Ok(Picture { pixels, visits: walk.visits, overflow: walk.overflow, collision })
+}
+
+/// The frontmost solid pixel: high sprites, A, B, then low sprites, A, B.
+fn front(sprite: Dot, a: Dot, b: Dot) -> Option<u8> {
+    for high in [true, false] {
+        for dot in [sprite, a, b] {
+            if dot.solid() && dot.high == high {
+                return Some(dot.index());
+            }
+        }
+    }
+    None
+}

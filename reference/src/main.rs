@@ -1,0 +1,113 @@
+//! An independent second program for the chip of document 01, written from the papers alone.
+//! Reads and makes replay streams, and counts which rules the streams meet.
+//! The chip's description is Charles MacDonald's "Sega Genesis VDP documentation", 1.5f.
+
+#![forbid(unsafe_code)]
+
+mod answer;
+mod book;
+mod calls;
+mod check;
+mod cover;
+mod dma;
+mod draw;
+mod pattern;
+mod planes;
+mod ports;
+mod replay;
+mod sprites;
+mod state;
+mod streams;
+mod tape;
+#[cfg(test)]
+mod worked;
+
+use std::io::{self, Read, Write};
+use std::process::ExitCode;
+
+const USAGE: &str = "usage: reference replay [--book] < stream
+       reference gen SEED KIND COUNT > stream
+       reference cover [SEEDS [COMMANDS]]
+kinds: ports dma refusals tape drawing mix";
+
+fn main() -> ExitCode {
+    let words: Vec<String> = std::env::args().skip(1).collect();
+    let words: Vec<&str> = words.iter().map(String::as_str).collect();
+    let done = match words.as_slice() {
+        ["replay"] => replay_plain(),
+        ["replay", "--book"] => replay_with_book(),
+        ["gen", seed, kind, count] => match generate(seed, kind, count) {
+            Some(bytes) => io::stdout().write_all(&bytes).map(|()| ExitCode::SUCCESS),
+            None => Ok(usage()),
+        },
+        ["cover", numbers @ ..] => match cover_numbers(numbers) {
+            Some((seeds, count)) => print(&cover::report(seeds, count)),
+            None => Ok(usage()),
+        },
+        _ => Ok(usage()),
+    };
+    done.unwrap_or(ExitCode::FAILURE)
+}
+
+fn usage() -> ExitCode {
+    eprintln!("{USAGE}");
+    ExitCode::from(2)
+}
+
+fn print(text: &str) -> io::Result<ExitCode> {
+    io::stdout().write_all(text.as_bytes())?;
+    Ok(ExitCode::SUCCESS)
+}
+
+fn input() -> io::Result<Vec<replay::Command>> {
+    let mut bytes = Vec::new();
+    let most = (replay::MOST_COMMANDS * replay::COMMAND_BYTES) as u64;
+    io::stdin().lock().take(most).read_to_end(&mut bytes)?;
+    Ok(replay::commands(&bytes))
+}
+
+fn replay_plain() -> io::Result<ExitCode> {
+    let mut machine = replay::Machine::new();
+    let mut out = io::BufWriter::new(io::stdout().lock());
+    for command in input()? {
+        if let Some(line) = machine.apply(&command) {
+            writeln!(out, "{line}")?;
+        }
+    }
+    out.flush()?;
+    Ok(ExitCode::SUCCESS)
+}
+
+/// A difference from the book is told on standard error and makes the exit status 1.
+fn replay_with_book() -> io::Result<ExitCode> {
+    let mut checker = check::Checker::new();
+    let mut out = io::BufWriter::new(io::stdout().lock());
+    let mut code = ExitCode::SUCCESS;
+    for (index, command) in input()?.iter().enumerate() {
+        let (line, difference) = checker.apply(command);
+        if let Some(line) = line {
+            writeln!(out, "{line}")?;
+        }
+        if let Some(difference) = difference {
+            eprintln!("command {index} {command:?}: {difference}");
+            code = ExitCode::FAILURE;
+        }
+    }
+    out.flush()?;
+    Ok(code)
+}
+
+fn generate(seed: &str, kind: &str, count: &str) -> Option<Vec<u8>> {
+    let kind = streams::Kind::named(kind)?;
+    let commands = streams::stream(seed.parse().ok()?, kind, count.parse().ok()?);
+    Some(commands.iter().flat_map(|command| command.to_bytes()).collect())
+}
+
+fn cover_numbers(words: &[&str]) -> Option<(u64, usize)> {
+    match words {
+        [] => Some((40, 400)),
+        [seeds] => Some((seeds.parse().ok()?, 400)),
+        [seeds, count] => Some((seeds.parse().ok()?, count.parse().ok()?)),
+        _ => None,
+    }
+}

@@ -1,0 +1,133 @@
+//! The chip's state, what makes it GOOD, and the one cell a step may store to
+//! (document 01, "The state").
+
+pub const VRAM_BYTES: usize = 65_536;
+pub const REGISTERS: usize = 24;
+pub const COLOURS: usize = 64;
+pub const SCROLLS: usize = 40;
+
+/// The bits a colour word has: three for each part, every lowest bit unused.
+pub const COLOUR_BITS: u16 = 0x0EEE;
+/// The greatest vertical scroll word.
+pub const SCROLL_MOST: u16 = 0x3FF;
+
+pub type Vram = [u8; VRAM_BYTES];
+
+/// DMA kinds.
+pub const IDLE: u8 = 0;
+pub const FILL_WAITING: u8 = 1;
+pub const TRANSFER: u8 = 2;
+pub const FILL: u8 = 3;
+pub const COPY: u8 = 4;
+
+#[derive(Clone, Debug, PartialEq, Eq)]
+pub struct State {
+    pub registers: [u8; REGISTERS],
+    pub colours: [u16; COLOURS],
+    pub scrolls: [u16; SCROLLS],
+    pub address: u16,
+    pub code: u8,
+    pub pending: bool,
+    pub kind: u8,
+    pub remaining: u32,
+    pub source: u32,
+    pub fill: u8,
+    pub overflow: bool,
+    pub collision: bool,
+    pub pal: bool,
+}
+
+impl State {
+    /// The state after power on.
+    pub fn fresh(pal: bool) -> State {
+        State {
+            registers: [0; REGISTERS],
+            colours: [0; COLOURS],
+            scrolls: [0; SCROLLS],
+            address: 0,
+            code: 0,
+            pending: false,
+            kind: IDLE,
+            remaining: 0,
+            source: 0,
+            fill: 0,
+            overflow: false,
+            collision: false,
+            pal,
+        }
+    }
+
+    pub fn good(&self) -> bool {
+        self.colours.iter().all(|word| word & !COLOUR_BITS == 0)
+            && self.scrolls.iter().all(|word| *word <= SCROLL_MOST)
+            && self.code <= 63
+            && self.kind <= COPY
+            && self.remaining_good()
+            && self.source_good()
+            && (self.fill == 0 || self.kind == FILL)
+    }
+
+    /// Units remain exactly while a transfer, fill or copy is under way.
+    fn remaining_good(&self) -> bool {
+        let under_way = self.kind != IDLE && self.kind != FILL_WAITING;
+        self.remaining <= 65_535 && (self.remaining != 0) == under_way
+    }
+
+    fn source_good(&self) -> bool {
+        match self.kind {
+            TRANSFER => self.source % 2 == 0 && self.source <= 0xFF_FFFF,
+            COPY => self.source <= 0xFFFF,
+            _ => self.source == 0,
+        }
+    }
+
+    /// Is a transfer, fill or copy under way?
+    pub fn running(&self) -> bool {
+        matches!(self.kind, TRANSFER | FILL | COPY)
+    }
+}
+
+/// The cell kinds of a record (document 01, The tape).
+pub const CELL_NONE: u8 = 0;
+pub const CELL_VRAM: u8 = 1;
+pub const CELL_COLOUR: u8 = 2;
+pub const CELL_SCROLL: u8 = 3;
+pub const CELL_REGISTER: u8 = 4;
+
+/// The cell a step stored to, with what it held before.
+#[derive(Clone, Copy, Debug, PartialEq, Eq)]
+pub struct Cell {
+    pub kind: u8,
+    pub place: u16,
+    pub old: u16,
+}
+
+impl Cell {
+    /// The cell of a step that stores nothing.
+    pub const NONE: Cell = Cell { kind: CELL_NONE, place: 0, old: 0 };
+
+    /// The VRAM word that holds the byte at this address, as it is now.
+    pub fn vram(vram: &Vram, address: u16) -> Cell {
+        let place = address & 0xFFFE;
+        Cell { kind: CELL_VRAM, place, old: vram_word(vram, place) }
+    }
+
+    /// A register write stores to the register alone.
+    pub fn register(number: usize, old: u8) -> Cell {
+        Cell { kind: CELL_REGISTER, place: number as u16, old: u16::from(old) }
+    }
+}
+
+/// The word at an even VRAM address, upper byte first.
+pub fn vram_word(vram: &Vram, place: u16) -> u16 {
+    let even = usize::from(place & 0xFFFE);
+    u16::from_be_bytes([vram[even], vram[even + 1]])
+}
+
+/// Stores a word at an even VRAM address, upper byte first.
+pub fn put_vram_word(vram: &mut Vram, place: u16, word: u16) {
+    let even = usize::from(place & 0xFFFE);
+    let [upper, lower] = word.to_be_bytes();
+    vram[even] = upper;
+    vram[even + 1] = lower;
+}
