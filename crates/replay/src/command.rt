@@ -26,7 +26,7 @@ fn joined_words(high: u16, low: u16) -> u32
 }
 
 // The command that begins at a place of the input.
-pub fn command_at(input: &[u8], at: usize) -> Command
+pub(crate) fn command_at(input: &[u8], at: usize) -> Command
     requires { ⌜ at + 8 ≤ length (now input) ⌝ }
     ensures { λ r. ⌜ r ≡ commandAt (now (input .entry)) at ⌝ }
 {

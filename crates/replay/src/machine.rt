@@ -46,7 +46,7 @@ pub fn with_state(m: Machine, s: State) -> Machine {
 }
 
 // How many bytes of a buffer are lent: the smaller of the length asked for and the bytes held.
-pub fn lent(m: Machine, buffer: usize, held: usize) -> usize
+pub(crate) fn lent(m: Machine, buffer: usize, held: usize) -> usize
     requires { ⌜ buffer < 6 ⌝ }
     ensures { λ r. ⌜ r ≤ held ⌝ }
     ensures { λ r. ⌜ r ≡ min (getD (m .lengths) buffer 0) held ⌝ }
