@@ -1,9 +1,6 @@
 /* Tests of the library from C: both exports of vdp_host over their whole range, and the layout of the state, field by
  * field, seen through calls. What is expected is built the other way round: words from parts, bytes from pixels. */
-#include <stdio.h>
-#include <string.h>
-
-#include "kuthbareen.h"
+#include "testing.h"
 
 _Static_assert(sizeof(kuthbareen_port) == 4, "port");
 _Static_assert(offsetof(kuthbareen_port, address) == 0, "address");
@@ -34,26 +31,6 @@ _Static_assert(offsetof(kuthbareen_answer, result) == 4, "result");
 static uint8_t vram[KUTHBAREEN_VRAM_SIZE + 1];
 static uint8_t ram[KUTHBAREEN_RAM_SIZE];
 static uint8_t cartridge[4] = {0x12, 0x34, 0x56, 0x78};
-
-static unsigned long tests, failures;
-
-static void expect(const char *what, unsigned long got, unsigned long wanted)
-{
-    tests++;
-    if (got != wanted && ++failures <= 20)
-        printf("%s: got %lu, expected %lu\n", what, got, wanted);
-}
-
-static int same_state(const kuthbareen_state *a, const kuthbareen_state *b)
-{
-    const kuthbareen_control *c = &a->control, *d = &b->control;
-    return memcmp(a->registers, b->registers, sizeof a->registers) == 0 &&
-           memcmp(a->cram, b->cram, sizeof a->cram) == 0 && memcmp(a->vsram, b->vsram, sizeof a->vsram) == 0 &&
-           c->port.address == d->port.address && c->port.code == d->port.code && c->port.pending == d->port.pending &&
-           c->dma.kind == d->dma.kind && c->dma.remaining == d->dma.remaining && c->dma.source == d->dma.source &&
-           c->dma.fill == d->dma.fill && c->flags.overflow == d->flags.overflow &&
-           c->flags.collision == d->flags.collision && a->pal == b->pal;
-}
 
 static kuthbareen_answer run(kuthbareen_state *chip, uint32_t budget)
 {
@@ -182,7 +159,7 @@ static void arrays(void)
 /* The port, the flags and PAL. */
 static void port(void)
 {
-    kuthbareen_state chip = kuthbareen_fresh(true), zero, before;
+    kuthbareen_state chip = kuthbareen_fresh(true), zero;
     memset(&zero, 0, sizeof zero);
     zero.pal = true;
     expect("fresh", same_state(&chip, &zero), 1);
@@ -211,6 +188,12 @@ static void port(void)
     expect("byte write", kuthbareen_data_write_byte(&chip, vram, KUTHBAREEN_VRAM_SIZE, 0xC3).number, 0);
     expect("high byte", vram[0x9234], 0xC3);
     expect("low byte", vram[0x9235], 0xC3);
+}
+
+/* Refused port accesses leave the state as it came. */
+static void refusals(void)
+{
+    kuthbareen_state chip = kuthbareen_fresh(false), before;
     chip.control.port.code = 64;
     before = chip;
     expect("code 64 is bad", kuthbareen_status_read(&chip).number, KUTHBAREEN_BAD_STATE);
@@ -223,10 +206,10 @@ static void port(void)
     expect("left as it came", same_state(&chip, &before), 1);
 }
 
-/* The DMA fields, set in C and seen in what a run does. */
-static void dma(void)
+/* The DMA fields, set in C and seen in what a fill and a copy do. */
+static void fill_and_copy(void)
 {
-    kuthbareen_state chip = kuthbareen_fresh(false), before;
+    kuthbareen_state chip = kuthbareen_fresh(false);
     memset(vram, 0, sizeof vram);
     chip.registers[15] = 1;
     chip.control.port.code = 1;
@@ -250,7 +233,14 @@ static void dma(void)
     expect("copied", vram[0x200], 0x5A);
     expect("source", chip.control.dma.source, 0x101);
     expect("rest of the copy", run(&chip, 1).result, 1);
+}
+
+/* The same in a transfer, and the memories that are lent to it. */
+static void transfer(void)
+{
+    kuthbareen_state chip = kuthbareen_fresh(false), before;
     chip.registers[15] = 2;
+    chip.control.port.code = 1;
     chip.control.port.address = 0x300;
     chip.control.dma.kind = 2;
     chip.control.dma.remaining = 2;
@@ -277,7 +267,8 @@ int main(void)
     patterns();
     arrays();
     port();
-    dma();
-    printf("%lu tests, %lu failures\n", tests, failures);
-    return failures != 0;
+    refusals();
+    fill_and_copy();
+    transfer();
+    return tested();
 }

@@ -40,6 +40,7 @@ enum {
     KUTHBAREEN_VRAM_SIZE = 65536,
     KUTHBAREEN_RAM_SIZE = 65536,
     KUTHBAREEN_MOST_CARTRIDGE = 4194304,
+    KUTHBAREEN_LINE_SIZE = 320,
     KUTHBAREEN_ROW_SIZE = 8
 };
 
@@ -83,7 +84,7 @@ typedef struct {
 /* What a call on a lent state gives back. */
 typedef struct {
     uint8_t number;  /* one of the numbers above */
-    uint32_t result; /* the word read or the units made, else 0 */
+    uint32_t result; /* the word read, the units made or the sprites visited, else 0 */
 } kuthbareen_answer;
 
 /* A fresh state: all zero, PAL as asked. */
@@ -114,6 +115,12 @@ kuthbareen_answer kuthbareen_new_frame(kuthbareen_state *state);
  * cartridge, and from E00000h up in work RAM. */
 kuthbareen_answer kuthbareen_run(kuthbareen_state *state, uint8_t *vram, size_t vram_size, const uint8_t *cartridge,
                                  size_t cartridge_size, const uint8_t *ram, size_t ram_size, uint32_t budget);
+
+/* Draws a line of the screen into 320 pixels: a colour index, 0 to 63, for each column of the visible width, which is
+ * 320 or 256; the pixels beyond it stay. Sets the sprite flags that the line meets and clears none. The result says how
+ * many sprites were visited. */
+kuthbareen_answer kuthbareen_line(kuthbareen_state *state, const uint8_t *vram, size_t vram_size, uint32_t line,
+                                  uint8_t *pixels, size_t pixels_size);
 
 /* The parts of a colour word, given register 0: 256 x blue + 16 x green + red, each 0 to 7. Never refused. */
 uint32_t kuthbareen_colour_parts(uint16_t word, uint8_t register0);

@@ -53,7 +53,11 @@ pub struct Answer {
 pub const DONE: u8 = 0;
 pub const BAD_STATE: u8 = 1;
 pub const BUSY: u8 = 3;
+pub const NOT_MODELLED: u8 = 4;
+pub const NO_SUCH_PLACE: u8 = 5;
 pub const SOURCE_NOT_LENT: u8 = 7;
+
+pub const LINE_SIZE: usize = 320;
 
 mod c {
     use super::{Answer, State};
@@ -76,6 +80,14 @@ mod c {
             ram: *const u8,
             ram_size: usize,
             budget: u32,
+        ) -> Answer;
+        pub fn kuthbareen_line(
+            state: *mut State,
+            vram: *const u8,
+            vram_size: usize,
+            line: u32,
+            pixels: *mut u8,
+            pixels_size: usize,
         ) -> Answer;
     }
 }
@@ -113,6 +125,20 @@ pub fn run(
             ram.as_ptr(),
             ram.len(),
             budget,
+        )
+    }
+}
+
+pub fn line(state: &mut State, vram: &[u8], line: u32, pixels: &mut [u8]) -> Answer {
+    // SAFETY: as above.
+    unsafe {
+        c::kuthbareen_line(
+            state,
+            vram.as_ptr(),
+            vram.len(),
+            line,
+            pixels.as_mut_ptr(),
+            pixels.len(),
         )
     }
 }

@@ -1,14 +1,29 @@
-// A chip with its VRAM, beside the work RAM of its 68000, and the words that make it ready for each piece of work.
-use crate::exports::{control_write, data_write, fresh, State, DONE};
+// A chip with its VRAM and its screen, beside the work RAM of its 68000, and what makes it ready for a piece of work.
+use crate::exports::{control_write, data_write, fresh, State, DONE, LINE_SIZE};
 
 pub const MEMORY_SIZE: usize = 65_536;
 
 pub type Memory = [u8; MEMORY_SIZE];
 
+pub const LINES: usize = 224;
+
+// The lines drawn, and the sprites that were visited for each.
+#[derive(Clone, PartialEq)]
+pub struct Screen {
+    pub pixels: [[u8; LINE_SIZE]; LINES],
+    pub visits: [u32; LINES],
+}
+
+const CLEARED: Screen = Screen {
+    pixels: [[0; LINE_SIZE]; LINES],
+    visits: [0; LINES],
+};
+
 pub struct Machine {
     pub state: State,
     pub vram: Box<Memory>,
     pub ram: Box<Memory>,
+    pub screen: Box<Screen>,
 }
 
 impl Machine {
@@ -17,6 +32,7 @@ impl Machine {
             state: fresh(false),
             vram: Box::new([0; MEMORY_SIZE]),
             ram: Box::new([0; MEMORY_SIZE]),
+            screen: Box::new(CLEARED),
         }
     }
 
@@ -25,6 +41,7 @@ impl Machine {
         self.state = fresh(false);
         self.vram.fill(0);
         self.ram.fill(0);
+        *self.screen = CLEARED;
     }
 
     fn control(&mut self, words: &[u16]) {
@@ -77,6 +94,29 @@ fn transfer(m: &mut Machine) {
     lay_pattern(&mut m.ram[..]);
     m.control(&LONGEST);
     m.control(&[0x8F02, 0x9500, 0x9600, 0x9770]);
+}
+
+// Planes of 64 x 32 cells at C000h and E000h, scrolled line by line, a window in the leftmost 128 columns at A000h, and
+// 80 sprites at F800h that are spread over the screen. Patterns and cells differ from place to place, and a third of
+// the patterns' bytes are clear.
+pub fn scene(m: &mut Machine) {
+    lay_pattern(&mut m.vram[..]);
+    for byte in m.vram.iter_mut().step_by(3) {
+        *byte = 0;
+    }
+    for number in 0..80_u16 {
+        let y = 128 + number * 53 % 224;
+        let x = 128 + number * 37 % 320;
+        let size = number % 16;
+        let link = (number + 1) % 80;
+        let words = [y, size << 8 | link, number.wrapping_mul(0x0935), x];
+        let entry = 0xF800 + 8 * usize::from(number);
+        for (place, word) in words.iter().enumerate() {
+            m.vram[entry + 2 * place..][..2].copy_from_slice(&word.to_be_bytes());
+        }
+    }
+    m.control(&[0x8004, 0x8144, 0x8230, 0x8328, 0x8407, 0x857C, 0x8703]);
+    m.control(&[0x8B03, 0x8C81, 0x8D2C, 0x9001, 0x9108, 0x9200]);
 }
 
 // Data writes to VRAM from address 0, step 2.

@@ -1,9 +1,10 @@
-// Times the library's DMA runs and data writes beside plain Rust loops of the same work and prints a table.
+// Times the library's DMA runs, data writes and lines beside plain Rust programs of the same work and prints a table.
 // `bench [N]`: the best of N repetitions (100 if not given). Exits with 1 if the two ever differ in what they leave.
 mod exports;
 mod machine;
 mod measure;
 mod plain;
+mod plain_line;
 mod work;
 
 use std::process::ExitCode;

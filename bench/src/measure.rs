@@ -54,7 +54,7 @@ fn timed(
     (start.elapsed(), answer)
 }
 
-// The same state, VRAM, number and count, and all the units made.
+// The same state, memories, screen, number and count, and all the units made.
 fn compare(
     work: &Work,
     (ours, our_answer): (&Machine, Answer),
@@ -66,6 +66,7 @@ fn compare(
         (ours.state == plain.state, "the states differ"),
         (ours.vram == plain.vram, "VRAM differs"),
         (ours.ram == plain.ram, "work RAM differs"),
+        (ours.screen == plain.screen, "pixels or visits differ"),
     ];
     match checks.iter().find(|(holds, _)| !holds) {
         Some((_, what)) => Err(format!("{}: {what}", work.name)),

@@ -1,13 +1,13 @@
-// The same work as a plain Rust program would do it: the state is changed in place, unit by unit, by the rules of
-// document 01 (Ports and DMA). Buffers are arrays, so that no store needs a bounds check. Calls are never inlined, as
-// those of the library are not.
-use crate::exports::{Answer, Dma, State, BAD_STATE, BUSY, DONE, SOURCE_NOT_LENT};
+// The same work as a plain Rust program would do it, unit by unit on the lent state, by the rules of document 01 (Ports
+// and DMA). Buffers are arrays, so that no store needs a bounds check. Calls are never inlined, as those of the library
+// are not.
+use crate::exports::{Answer, Control, Dma, State, BAD_STATE, BUSY, DONE, SOURCE_NOT_LENT};
 use crate::machine::Memory;
 
 const WORK_RAM: u32 = 0xE0_0000;
 
 // GOOD, as the library asks it of every state.
-fn good(state: &State) -> bool {
+pub fn good(state: &State) -> bool {
     let dma = &state.control.dma;
     let source_good = match dma.kind {
         2 => dma.source & 1 == 0 && dma.source < 0x100_0000,
@@ -27,11 +27,10 @@ fn good(state: &State) -> bool {
 // Stores a word where the code and the address say.
 fn store_word(state: &mut State, vram: &mut Memory, word: u16) {
     let address = state.control.port.address;
-    let index = usize::from(address / 2 % 64);
     match state.control.port.code & 0b1111 {
         0b0001 => store_vram(vram, address, word),
-        0b0011 => state.cram[index] = word & 0x0EEE,
-        0b0101 if index < 40 => state.vsram[index] = word & 0x3FF,
+        0b0011 => store_colour(&mut state.cram, address, word),
+        0b0101 => store_scroll(&mut state.vsram, address, word),
         _ => {}
     }
 }
@@ -47,6 +46,16 @@ fn store_vram(vram: &mut Memory, address: u16, word: u16) {
     let [high, low] = word.to_be_bytes();
     vram[place] = high;
     vram[place | 1] = low;
+}
+
+fn store_colour(cram: &mut [u16; 64], address: u16, word: u16) {
+    cram[usize::from(address / 2 % 64)] = word & 0x0EEE;
+}
+
+fn store_scroll(vsram: &mut [u16; 40], address: u16, word: u16) {
+    if let Some(stored) = vsram.get_mut(usize::from(address / 2 % 64)) {
+        *stored = word & 0x3FF;
+    }
 }
 
 fn advance(state: &mut State) {
@@ -124,18 +133,50 @@ fn lacking(dma: &Dma, cartridge: &[u8], units: u32) -> bool {
     units > 0 && dma.source < WORK_RAM && end > cartridge.len()
 }
 
+// No unit changes the code, so it is asked once.
 fn transfer(state: &mut State, vram: &mut Memory, cartridge: &[u8], ram: &Memory, units: u32) {
-    for _ in 0..units {
-        let word = word_from(cartridge, ram, state.control.dma.source);
-        store_word(state, vram, word);
-        advance(state);
-        let dma = &mut state.control.dma;
-        dma.source = if dma.source == 0xFF_FFFE {
-            0xFF_0000
-        } else {
-            dma.source + 2
-        };
-        dma.remaining -= 1;
+    let code = state.control.port.code & 0b1111;
+    let step = state.registers[15];
+    let moved = Moved {
+        control: &mut state.control,
+        step,
+        cartridge,
+        ram,
+        units,
+    };
+    match code {
+        0b0001 => moved.to(|address, word| store_vram(vram, address, word)),
+        0b0011 => moved.to(|address, word| store_colour(&mut state.cram, address, word)),
+        0b0101 => moved.to(|address, word| store_scroll(&mut state.vsram, address, word)),
+        _ => moved.to(|_, _| {}),
+    }
+}
+
+// The words that a transfer moves, and what counts them.
+struct Moved<'a> {
+    control: &'a mut Control,
+    step: u8,
+    cartridge: &'a [u8],
+    ram: &'a Memory,
+    units: u32,
+}
+
+impl Moved<'_> {
+    fn to(self, mut store: impl FnMut(u16, u16)) {
+        let Control { port, dma, .. } = self.control;
+        let (mut address, mut source) = (port.address, dma.source);
+        for _ in 0..self.units {
+            store(address, word_from(self.cartridge, self.ram, source));
+            address = address.wrapping_add(u16::from(self.step));
+            source = if source == 0xFF_FFFE {
+                0xFF_0000
+            } else {
+                source + 2
+            };
+        }
+        port.address = address;
+        dma.source = source;
+        dma.remaining -= self.units;
     }
 }
 
@@ -174,6 +215,6 @@ fn copy(state: &mut State, vram: &mut Memory, units: u32) {
     }
 }
 
-fn answer(number: u8, result: u32) -> Answer {
+pub fn answer(number: u8, result: u32) -> Answer {
     Answer { number, result }
 }

@@ -1,9 +1,9 @@
 // The pieces of work: how a machine is made ready, and the work as the library and as plain Rust do it.
 use std::hint::black_box;
 
-use crate::exports::{self, Answer, DONE};
-use crate::machine::{self, Machine};
-use crate::plain;
+use crate::exports::{self, Answer, State, DONE, LINE_SIZE};
+use crate::machine::{self, Machine, Memory, Screen, LINES};
+use crate::{plain, plain_line};
 
 const LONGEST_RUN: u32 = 65_535;
 
@@ -28,6 +28,13 @@ pub fn all() -> Vec<Work> {
         run("transfer to colours", machine::transfer_to_colours),
         writes("data write", plain_writes),
         writes("data write, plain asks GOOD", plain_writes_asking_good),
+        Work {
+            name: "line",
+            units: LINES as u32,
+            make_ready: machine::scene,
+            ours: our_lines,
+            plain: plain_lines,
+        },
     ]
 }
 
@@ -83,6 +90,34 @@ fn count_done(mut write: impl FnMut(u16) -> Answer) -> Answer {
     for i in 0..DATA_WRITES {
         let word = black_box((i * 5 + 1) as u16);
         done += u32::from(black_box(write(word)).number == DONE);
+    }
+    Answer {
+        number: DONE,
+        result: done,
+    }
+}
+
+fn our_lines(m: &mut Machine) -> Answer {
+    draw_all(m, |state, vram, line, pixels| {
+        exports::line(state, vram, line, pixels)
+    })
+}
+
+fn plain_lines(m: &mut Machine) -> Answer {
+    draw_all(m, plain_line::line)
+}
+
+// Draws every line of the screen and counts those that were drawn.
+fn draw_all(
+    m: &mut Machine,
+    draw: impl Fn(&mut State, &Memory, u32, &mut [u8; LINE_SIZE]) -> Answer,
+) -> Answer {
+    let Screen { pixels, visits } = &mut *m.screen;
+    let mut done = 0;
+    for (line, (pixels, visits)) in (0..).zip(pixels.iter_mut().zip(visits)) {
+        let answer = draw(&mut m.state, &m.vram, black_box(line), pixels);
+        *visits = answer.result;
+        done += u32::from(answer.number == DONE);
     }
     Answer {
         number: DONE,

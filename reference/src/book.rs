@@ -145,11 +145,11 @@ fn buffers_good(call: &Call) -> bool {
 fn step(page: &mut Page, call: &Call) {
     let (state, vram) = (&mut page.state, &mut page.vram);
     match call {
-        Call::ControlWrite(word) => drop(ports::control_write(state, *word)),
-        Call::DataWrite(word) => drop(ports::data_write(state, vram, *word)),
+        Call::ControlWrite(word) => ports::control_write(state, *word),
+        Call::DataWrite(word) => ports::data_write(state, vram, *word),
         Call::DataRead => drop(ports::data_read(state, vram)),
         Call::StatusRead => drop(ports::status_read(state)),
-        Call::Run { memories, .. } => drop(dma::unit(state, vram, *memories)),
+        Call::Run { memories, .. } => dma::unit(state, vram, *memories),
         Call::NewFrame => ports::new_frame(state),
         Call::Line { line, .. } => {
             if let Ok(picture) = draw::picture(state, vram, *line) {

@@ -5,11 +5,12 @@ use crate::answer::{
     need, Answer, Reply, BAD_BUFFER, BAD_RECORD, BAD_STATE, BUSY, NOTHING_THERE, NOT_MODELLED,
     NO_SUCH_PLACE, SOURCE_NOT_LENT, TAPE_FULL,
 };
+use crate::cells::{self, Cell};
 use crate::dma::{self, Memories};
 use crate::draw;
 use crate::pattern;
 use crate::ports;
-use crate::state::{Cell, State, Vram, TRANSFER, VRAM_BYTES};
+use crate::state::{State, Vram, TRANSFER, VRAM_BYTES};
 use crate::tape::{good_record, undo, Tape};
 
 pub const WORK_RAM_BYTES: usize = 65_536;
@@ -44,8 +45,8 @@ pub fn control_write(state: &mut State, mut tape: Option<Tape>, word: u16) -> Re
     count_fits(&tape)?;
     need(!state.running(), BUSY)?;
     has_room(&tape, 1)?;
-    let before = state.clone();
-    let cell = ports::control_write(state, word);
+    let (before, cell) = (state.clone(), cells::of_control_write(state, word));
+    ports::control_write(state, word);
     keep(&mut tape, &before, cell);
     Ok(0)
 }
@@ -56,8 +57,8 @@ pub fn data_write(state: &mut State, vram: &mut [u8], mut tape: Option<Tape>, wo
     count_fits(&tape)?;
     need(!state.running(), BUSY)?;
     has_room(&tape, 1)?;
-    let before = state.clone();
-    let cell = ports::data_write(state, vram, word);
+    let (before, cell) = (state.clone(), cells::of_word(state, vram));
+    ports::data_write(state, vram, word);
     keep(&mut tape, &before, cell);
     Ok(0)
 }
@@ -70,7 +71,7 @@ pub fn data_read(state: &mut State, vram: &[u8], mut tape: Option<Tape>) -> Repl
     has_room(&tape, 1)?;
     let before = state.clone();
     let word = ports::data_read(state, vram);
-    keep(&mut tape, &before, Cell::NONE);
+    keep(&mut tape, &before, cells::NONE);
     Ok(u32::from(word))
 }
 
@@ -82,7 +83,7 @@ pub fn status_read(state: &mut State, mut tape: Option<Tape>) -> Reply {
     has_room(&tape, 1)?;
     let before = state.clone();
     let word = ports::status_read(state);
-    keep(&mut tape, &before, Cell::NONE);
+    keep(&mut tape, &before, cells::NONE);
     Ok(u32::from(word))
 }
 
@@ -92,7 +93,7 @@ pub fn new_frame(state: &mut State, mut tape: Option<Tape>) -> Reply {
     has_room(&tape, 1)?;
     let before = state.clone();
     ports::new_frame(state);
-    keep(&mut tape, &before, Cell::NONE);
+    keep(&mut tape, &before, cells::NONE);
     Ok(0)
 }
 
@@ -118,8 +119,8 @@ pub fn run(
     need(dma::all_lent(state, units, memories), SOURCE_NOT_LENT)?;
     has_room(&tape, units)?;
     for _ in 0..units {
-        let before = state.clone();
-        let cell = dma::unit(state, vram, memories);
+        let (before, cell) = (state.clone(), cells::of_unit(state, vram));
+        dma::unit(state, vram, memories);
         keep(&mut tape, &before, cell);
     }
     Ok(units)
@@ -147,7 +148,7 @@ pub fn draw_line(
     }
     state.overflow |= picture.overflow;
     state.collision |= picture.collision;
-    keep(&mut tape, &before, Cell::NONE);
+    keep(&mut tape, &before, cells::NONE);
     Ok(picture.visits)
 }
 

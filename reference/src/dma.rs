@@ -2,7 +2,7 @@
 //! (document 01, DMA; notes s11).
 
 use crate::ports;
-use crate::state::{Cell, State, Vram, COPY, FILL, FILL_WAITING, IDLE, TRANSFER};
+use crate::state::{State, Vram, COPY, FILL, FILL_WAITING, IDLE, TRANSFER};
 
 /// Work RAM answers from this address up.
 const WORK_RAM_FROM: u32 = 0xE0_0000;
@@ -67,44 +67,38 @@ pub fn units(state: &State, budget: u32) -> u32 {
 }
 
 /// One unit of what is under way; the last one ends it.
-pub fn unit(state: &mut State, vram: &mut Vram, memories: Memories) -> Cell {
-    let cell = match state.kind {
+pub fn unit(state: &mut State, vram: &mut Vram, memories: Memories) {
+    match state.kind {
         TRANSFER => transfer_unit(state, vram, memories),
         FILL => fill_unit(state, vram),
         COPY => copy_unit(state, vram),
-        _ => return Cell::NONE,
-    };
+        _ => return,
+    }
     state.remaining = state.remaining.saturating_sub(1);
     if state.remaining == 0 {
         begin(state, IDLE, 0, 0, 0);
     }
-    cell
 }
 
-fn transfer_unit(state: &mut State, vram: &mut Vram, memories: Memories) -> Cell {
+fn transfer_unit(state: &mut State, vram: &mut Vram, memories: Memories) {
     let word = word_from(state.source, memories).unwrap_or(0);
     state.source = next_source(state.source);
-    ports::move_word(state, vram, word)
+    ports::move_word(state, vram, word);
 }
 
 /// A fill stores only under the VRAM write code, to the other byte of the word.
-fn fill_unit(state: &mut State, vram: &mut Vram) -> Cell {
-    let mut cell = Cell::NONE;
+fn fill_unit(state: &mut State, vram: &mut Vram) {
     if state.code & 0x0F == 0b0001 {
-        cell = Cell::vram(vram, state.address);
         vram[usize::from(state.address ^ 1)] = state.fill;
     }
     ports::advance(state);
-    cell
 }
 
 /// Byte by byte, so that an overlapping copy spreads.
-fn copy_unit(state: &mut State, vram: &mut Vram) -> Cell {
-    let cell = Cell::vram(vram, state.address);
+fn copy_unit(state: &mut State, vram: &mut Vram) {
     vram[usize::from(state.address)] = vram[(state.source % 65_536) as usize];
     state.source = (state.source + 1) % 65_536;
     ports::advance(state);
-    cell
 }
 
 /// Past the top of the 68000's memory a source stays within the last 64K.

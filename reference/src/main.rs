@@ -1,4 +1,5 @@
-//! An independent second program for the chip of document 01, written from the papers alone.
+//! An independent second program for the chip of document 01, written without a look at the proved
+//! one. Where document 01 leaves a choice it follows docs/DECISIONS.md.
 //! Reads and makes replay streams, and counts which rules the streams meet.
 //! The chip's description is Charles MacDonald's "Sega Genesis VDP documentation", 1.5f.
 
@@ -7,6 +8,7 @@
 mod answer;
 mod book;
 mod calls;
+mod cells;
 mod check;
 mod cover;
 mod dma;
@@ -27,7 +29,7 @@ use std::process::ExitCode;
 
 const USAGE: &str = "usage: reference replay [--book] < stream
        reference gen SEED KIND COUNT > stream
-       reference cover [SEEDS [COMMANDS]]
+       reference cover STREAM ..
 kinds: ports dma refusals tape drawing mix";
 
 fn main() -> ExitCode {
@@ -40,23 +42,18 @@ fn main() -> ExitCode {
             Some(bytes) => io::stdout().write_all(&bytes).map(|()| ExitCode::SUCCESS),
             None => Ok(usage()),
         },
-        ["cover", numbers @ ..] => match cover_numbers(numbers) {
-            Some((seeds, count)) => print(&cover::report(seeds, count)),
-            None => Ok(usage()),
-        },
+        ["cover", first, more @ ..] => cover_streams(first, more),
         _ => Ok(usage()),
     };
-    done.unwrap_or(ExitCode::FAILURE)
+    done.unwrap_or_else(|error| {
+        eprintln!("reference: {error}");
+        ExitCode::FAILURE
+    })
 }
 
 fn usage() -> ExitCode {
     eprintln!("{USAGE}");
     ExitCode::from(2)
-}
-
-fn print(text: &str) -> io::Result<ExitCode> {
-    io::stdout().write_all(text.as_bytes())?;
-    Ok(ExitCode::SUCCESS)
 }
 
 fn input() -> io::Result<Vec<replay::Command>> {
@@ -103,11 +100,14 @@ fn generate(seed: &str, kind: &str, count: &str) -> Option<Vec<u8>> {
     Some(commands.iter().flat_map(|command| command.to_bytes()).collect())
 }
 
-fn cover_numbers(words: &[&str]) -> Option<(u64, usize)> {
-    match words {
-        [] => Some((40, 400)),
-        [seeds] => Some((seeds.parse().ok()?, 400)),
-        [seeds, count] => Some((seeds.parse().ok()?, count.parse().ok()?)),
-        _ => None,
+/// A rule or an answer that never came up in the streams makes the exit status 1.
+fn cover_streams(first: &str, more: &[&str]) -> io::Result<ExitCode> {
+    let mut tally = cover::Tally::new();
+    for file in std::iter::once(&first).chain(more) {
+        let bytes = std::fs::read(file)
+            .map_err(|error| io::Error::new(error.kind(), format!("{file}: {error}")))?;
+        tally.follow(&replay::commands(&bytes));
     }
+    io::stdout().write_all(tally.text().as_bytes())?;
+    Ok(if tally.never().is_empty() { ExitCode::SUCCESS } else { ExitCode::FAILURE })
 }

@@ -125,7 +125,7 @@ pub fn horizontal_scroll(view: &View, plane: Plane) -> Result<usize, Answer> {
 }
 
 /// One scroll word for the whole plane, or one for each two cells of the screen.
-fn vertical_scroll(view: &View, plane: Plane, x: usize) -> usize {
+pub fn vertical_scroll(view: &View, plane: Plane, x: usize) -> usize {
     let pair = if view.state.registers[11] & 4 != 0 { x / 16 } else { 0 };
     let word = match plane {
         Plane::A => view.state.scrolls.get(2 * pair),

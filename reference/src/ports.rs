@@ -2,10 +2,7 @@
 //! (document 01, Ports; notes s7 to s10). Refusals are in calls.rs.
 
 use crate::dma;
-use crate::state::{
-    put_vram_word, vram_word, Cell, State, Vram, CELL_COLOUR, CELL_SCROLL, COLOUR_BITS,
-    FILL_WAITING, IDLE, REGISTERS, SCROLLS, SCROLL_MOST,
-};
+use crate::state::{State, Vram, COLOUR_BITS, FILL_WAITING, IDLE, REGISTERS, SCROLLS, SCROLL_MOST};
 
 /// A byte on a port counts as a word with the byte in both halves.
 pub fn doubled(byte: u8) -> u16 {
@@ -13,30 +10,25 @@ pub fn doubled(byte: u8) -> u16 {
 }
 
 /// Control write: a second half if one is awaited, else a register write or a first half.
-pub fn control_write(state: &mut State, word: u16) -> Cell {
+pub fn control_write(state: &mut State, word: u16) {
     if state.pending {
         second_half(state, word);
-        Cell::NONE
     } else if word >> 14 == 0b10 {
-        register_write(state, word)
+        register_write(state, word);
     } else {
         first_half(state, word);
-        Cell::NONE
     }
 }
 
 /// Registers 24 to 31 do not exist; a write to them changes nothing at all.
-fn register_write(state: &mut State, word: u16) -> Cell {
+fn register_write(state: &mut State, word: u16) {
     let [upper, value] = word.to_be_bytes();
     let number = usize::from(upper % 32);
-    if number >= REGISTERS {
-        return Cell::NONE;
+    if number < REGISTERS {
+        state.registers[number] = value;
+        state.code = 0;
+        drop_waiting_fill(state);
     }
-    let cell = Cell::register(number, state.registers[number]);
-    state.registers[number] = value;
-    state.code = 0;
-    drop_waiting_fill(state);
-    cell
 }
 
 /// The upper bits of code and address stay until the second half.
@@ -63,52 +55,41 @@ fn drop_waiting_fill(state: &mut State) {
 }
 
 /// Data write; a waiting fill begins right after it.
-pub fn data_write(state: &mut State, vram: &mut Vram, word: u16) -> Cell {
-    let cell = move_word(state, vram, word);
+pub fn data_write(state: &mut State, vram: &mut Vram, word: u16) {
+    move_word(state, vram, word);
     state.pending = false;
     if state.kind == FILL_WAITING {
         let [upper, _] = word.to_be_bytes();
         dma::begin_fill(state, upper);
     }
-    cell
 }
 
 /// The part of a data write that a transfer unit shares: store by code, move the address.
-pub fn move_word(state: &mut State, vram: &mut Vram, word: u16) -> Cell {
-    let cell = match state.code & 0x0F {
+pub fn move_word(state: &mut State, vram: &mut Vram, word: u16) {
+    match state.code & 0x0F {
         0b0001 => store_vram(state, vram, word),
-        0b0011 => store_colour(state, word),
+        0b0011 => state.colours[colour_place(state.address)] = word & COLOUR_BITS,
         0b0101 => store_scroll(state, word),
-        _ => Cell::NONE,
-    };
+        _ => (),
+    }
     advance(state);
-    cell
 }
 
-/// An odd address swaps the two bytes of the word.
-fn store_vram(state: &State, vram: &mut Vram, word: u16) -> Cell {
-    let cell = Cell::vram(vram, state.address);
+/// Upper byte first at the even address; an odd address swaps the two bytes.
+fn store_vram(state: &State, vram: &mut Vram, word: u16) {
     let stored = if state.address % 2 == 1 { word.swap_bytes() } else { word };
-    put_vram_word(vram, cell.place, stored);
-    cell
-}
-
-fn store_colour(state: &mut State, word: u16) -> Cell {
-    let place = colour_place(state.address);
-    let cell = Cell { kind: CELL_COLOUR, place: place as u16, old: state.colours[place] };
-    state.colours[place] = word & COLOUR_BITS;
-    cell
+    let [upper, lower] = stored.to_be_bytes();
+    let even = usize::from(state.address & 0xFFFE);
+    vram[even] = upper;
+    vram[even + 1] = lower;
 }
 
 /// Scroll places 40 to 63 do not exist.
-fn store_scroll(state: &mut State, word: u16) -> Cell {
+fn store_scroll(state: &mut State, word: u16) {
     let place = scroll_place(state.address);
-    if place >= SCROLLS {
-        return Cell::NONE;
+    if place < SCROLLS {
+        state.scrolls[place] = word & SCROLL_MOST;
     }
-    let cell = Cell { kind: CELL_SCROLL, place: place as u16, old: state.scrolls[place] };
-    state.scrolls[place] = word & SCROLL_MOST;
-    cell
 }
 
 fn colour_place(address: u16) -> usize {
@@ -136,6 +117,11 @@ pub fn data_read(state: &mut State, vram: &Vram) -> u16 {
     advance(state);
     state.pending = false;
     word
+}
+
+fn vram_word(vram: &Vram, address: u16) -> u16 {
+    let even = usize::from(address & 0xFFFE);
+    u16::from_be_bytes([vram[even], vram[even + 1]])
 }
 
 /// Status read: only the modelled bits, the rest as on an idle chip.

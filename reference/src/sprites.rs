@@ -121,7 +121,7 @@ pub fn layer(view: &View, walk: &Walk) -> (Vec<Dot>, bool) {
 }
 
 /// A pixel of a sprite; flips turn the whole sprite, names run down its columns.
-fn sprite_dot(view: &View, sprite: &Sprite, column: usize) -> Dot {
+pub fn sprite_dot(view: &View, sprite: &Sprite, column: usize) -> Dot {
     let (wide, high) = (8 * sprite.cells_wide, 8 * sprite.cells_high);
     let row = (view.line + 128 - sprite.y) % high;
     let row = if sprite.cell.flip_v { high - 1 - row } else { row };

@@ -1,5 +1,4 @@
-//! The chip's state, what makes it GOOD, and the one cell a step may store to
-//! (document 01, "The state").
+//! The chip's state and what makes it GOOD (document 01, "The state").
 
 pub const VRAM_BYTES: usize = 65_536;
 pub const REGISTERS: usize = 24;
@@ -85,49 +84,4 @@ impl State {
     pub fn running(&self) -> bool {
         matches!(self.kind, TRANSFER | FILL | COPY)
     }
-}
-
-/// The cell kinds of a record (document 01, The tape).
-pub const CELL_NONE: u8 = 0;
-pub const CELL_VRAM: u8 = 1;
-pub const CELL_COLOUR: u8 = 2;
-pub const CELL_SCROLL: u8 = 3;
-pub const CELL_REGISTER: u8 = 4;
-
-/// The cell a step stored to, with what it held before.
-#[derive(Clone, Copy, Debug, PartialEq, Eq)]
-pub struct Cell {
-    pub kind: u8,
-    pub place: u16,
-    pub old: u16,
-}
-
-impl Cell {
-    /// The cell of a step that stores nothing.
-    pub const NONE: Cell = Cell { kind: CELL_NONE, place: 0, old: 0 };
-
-    /// The VRAM word that holds the byte at this address, as it is now.
-    pub fn vram(vram: &Vram, address: u16) -> Cell {
-        let place = address & 0xFFFE;
-        Cell { kind: CELL_VRAM, place, old: vram_word(vram, place) }
-    }
-
-    /// A register write stores to the register alone.
-    pub fn register(number: usize, old: u8) -> Cell {
-        Cell { kind: CELL_REGISTER, place: number as u16, old: u16::from(old) }
-    }
-}
-
-/// The word at an even VRAM address, upper byte first.
-pub fn vram_word(vram: &Vram, place: u16) -> u16 {
-    let even = usize::from(place & 0xFFFE);
-    u16::from_be_bytes([vram[even], vram[even + 1]])
-}
-
-/// Stores a word at an even VRAM address, upper byte first.
-pub fn put_vram_word(vram: &mut Vram, place: u16, word: u16) {
-    let even = usize::from(place & 0xFFFE);
-    let [upper, lower] = word.to_be_bytes();
-    vram[even] = upper;
-    vram[even + 1] = lower;
 }

@@ -1,10 +1,8 @@
 //! The tape: its records of 32 bytes, writing one, checking one, going back over one
 //! (document 01, The tape).
 
-use crate::state::{
-    put_vram_word, Cell, State, Vram, CELL_COLOUR, CELL_NONE, CELL_REGISTER, CELL_SCROLL,
-    CELL_VRAM, COLOURS, COLOUR_BITS, REGISTERS, SCROLLS, SCROLL_MOST,
-};
+use crate::cells::{Cell, CELL_COLOUR, CELL_NONE, CELL_REGISTER, CELL_SCROLL, CELL_VRAM, NONE};
+use crate::state::{State, Vram, COLOURS, COLOUR_BITS, REGISTERS, SCROLLS, SCROLL_MOST};
 
 pub const RECORD_BYTES: usize = 32;
 const VERSION: u8 = 1;
@@ -106,7 +104,7 @@ pub fn good_record(record: &Record) -> bool {
 fn good_cell(cell: Cell) -> bool {
     let place = usize::from(cell.place);
     match cell.kind {
-        CELL_NONE => cell == Cell::NONE,
+        CELL_NONE => cell == NONE,
         CELL_VRAM => place % 2 == 0,
         CELL_COLOUR => place < COLOURS && cell.old & !COLOUR_BITS == 0,
         CELL_SCROLL => place < SCROLLS && cell.old <= SCROLL_MOST,
@@ -120,7 +118,10 @@ pub fn undo(state: &mut State, vram: &mut Vram, record: &Record) {
     let cell = cell_of(record);
     let place = usize::from(cell.place);
     match cell.kind {
-        CELL_VRAM => put_vram_word(vram, cell.place, cell.old),
+        CELL_VRAM => {
+            put(vram, place, (cell.old >> 8) as u8);
+            put(vram, place + 1, (cell.old & 0xFF) as u8);
+        }
         CELL_COLOUR => put(&mut state.colours, place, cell.old),
         CELL_SCROLL => put(&mut state.scrolls, place, cell.old),
         CELL_REGISTER => put(&mut state.registers, place, (cell.old & 0xFF) as u8),

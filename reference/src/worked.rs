@@ -394,6 +394,25 @@ fn step_back_inside_a_recorded_copy() {
     assert_eq!(bench.vram()[..4], [0xAA, 0, 0, 0]);
 }
 
+/// A book can't see a cell that is put back as it was, so the records are looked at.
+#[test]
+fn steps_that_store_nothing_have_no_cell() {
+    let mut bench = Bench::new();
+    bench.0.recorded = true;
+    // A first half and a second half like a write to register 15, register 24, an absent scroll word.
+    bench.control(&[0x4050, 0x8F10, 0x9855]);
+    bench.write(0xFFFF);
+    assert_eq!(bench.call(5, 0, 0, 0), Ok(0));
+    assert_eq!(bench.call(6, 0, 0, 0), Ok(0x3600));
+    assert_eq!(bench.call(9, 0, 0, 0), Ok(0));
+    assert_eq!(bench.0.count, 7);
+    for record in bench.0.tape.bytes.chunks(32).take(7) {
+        assert_eq!(record[..8], [1, 0, 32, 0, 0, 0, 0, 0]);
+    }
+    bench.control(&[0x8F02]);
+    assert_eq!(bench.0.tape.bytes[7 * 32 + 3..7 * 32 + 8], [4, 0, 15, 0, 0]);
+}
+
 #[test]
 fn refusals_come_in_their_order() {
     let mut bench = Bench::new();

@@ -1,1 +1,5 @@
+pub mod Dot
+pub mod Painted
 pub mod Pattern
+pub mod Tabulate
+pub mod Width

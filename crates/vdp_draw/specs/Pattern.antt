@@ -1,9 +1,10 @@
 -- Patterns: document 01, Drawing ("Pattern row r is 4 bytes at 32 x name + 4r, left pixel in the high half").
-use Prim.Native.Nat.{ℕ, zero, suc, _+_, _*_, _/_, _%_}
+use Prim.Native.Nat.{ℕ, _+_, _*_, _/_, _%_}
 use mathlib.Core.Bool.{cond}
-use mathlib.Core.List.{List, [], _∷_, _++_}
+use mathlib.Core.List.{List}
 use lib.Dec.{eqb}
 use lib.ListN.{getD}
+use Rattle.vdp_draw.specs.Tabulate.{tabulate}
 
 -- the first byte of a pattern's row
 abbrev pub rowPlace : ℕ → ℕ → ℕ
@@ -17,11 +18,6 @@ half b column = cond (eqb (column % 2) 0) (b / 16) (b % 16)
 abbrev pub patternPixel : List ℕ → ℕ → ℕ → ℕ → ℕ
 patternPixel vram name row column = half (getD vram (rowPlace name row + column / 2) 0) column
 
--- the pixels of the columns below n, left to right
-abbrev pub across : (ℕ → ℕ) → ℕ → List ℕ
-across pixel zero = []
-across pixel (suc n) = across pixel n ++ (pixel n ∷ [])
-
 -- a row's eight pixels
 abbrev pub rowPixels : List ℕ → ℕ → ℕ → List ℕ
-rowPixels vram name row = across (patternPixel vram name row) 8
+rowPixels vram name row = tabulate (patternPixel vram name row) 8

@@ -1,2 +1,4 @@
-// Drawing (document 01, Drawing): so far the pixels of a pattern.
+// What planes and sprites draw with (document 01, Drawing): the pixels of patterns and the dots of cells.
+pub mod dot;
 pub mod pattern;
+pub mod width;

@@ -1,4 +1,4 @@
-//! Counts of the drawing rules: planes, window, scroll, sprites, and what is in front.
+//! Counts of the drawing rules: planes, window, scroll, sprites, what is in front, and pattern rows.
 
 use super::{names, Before, Tally};
 use crate::planes::{self, Dot, Plane, View};
@@ -30,6 +30,9 @@ const RULES: &[&str] = &[
     "window at width 256",
     "vertical scroll, whole",
     "vertical scroll, by two cells",
+    "horizontal scrolls of A and B differ",
+    "vertical scrolls of A and B differ",
+    "window's clear pixel where plane A has a solid one",
     "line while DMA runs",
     "walk ends at link 0",
     "walk ends at a link too great",
@@ -40,11 +43,13 @@ const RULES: &[&str] = &[
     "as many sprites as fit on a line",
     "overflow flag set",
     "collision flag set",
+    "solid pixels meet beside the screen alone",
     "flag set before stays",
     "masked sprite",
     "first sprite masks",
     "mask off this line ignored",
     "sprite cut short by used-up pixels",
+    "sprite cut short and flipped across",
     "sprite with no pixels left",
     "sprite used up while off the screen",
     "sprite partly left of the screen",
@@ -55,12 +60,16 @@ const RULES: &[&str] = &[
     "sprite met twice",
     "early low sprite keeps a later high one out",
     "low sprite under a high plane",
+    "pattern name 2,047",
+    "pattern row though the state is bad",
+    "pattern row while DMA runs",
 ];
 
 pub fn rules() -> Vec<String> {
     let mut rules = names(RULES);
     rules.extend(FRONTS.iter().map(|front| front.to_string()));
     rules.extend((0..4).map(|mode| format!("horizontal scroll mode {mode}")));
+    rules.extend((0..8).map(|row| format!("pattern row {row}")));
     rules.extend((1..5).map(|cells| format!("sprite {cells} cells wide")));
     rules.extend((1..5).map(|cells| format!("sprite {cells} cells high")));
     for (wide, high) in [(32, 32), (32, 64), (32, 128), (64, 32), (64, 64), (128, 32)] {
@@ -87,11 +96,22 @@ pub fn count(tally: &mut Tally, before: &Before, after: &Machine) {
         for (place, kept) in walk.kept.iter().enumerate() {
             kept_sprite(tally, &view, kept, place);
         }
-        let dots = sprites::layer(&view, &walk).0;
+        let (dots, collision) = sprites::layer(&view, &walk);
+        let beside = !collision && meet_beside(&view, &walk);
+        tally.meet_if(beside, "solid pixels meet beside the screen alone");
         early_and_late(tally, &view, &walk);
         fronts(tally, &view, &dots);
     }
     flags(tally, &machine.state, &after.state);
+}
+
+/// A pattern row asks for no state.
+pub fn count_row(tally: &mut Tally, before: &Before) {
+    let (state, command) = (&before.machine.state, &before.command);
+    tally.meet(&format!("pattern row {}", command.c));
+    tally.meet_if(command.b == 2_047, "pattern name 2,047");
+    tally.meet_if(!state.good(), "pattern row though the state is bad");
+    tally.meet_if(state.good() && state.running(), "pattern row while DMA runs");
 }
 
 fn shape(tally: &mut Tally, view: &View) {
@@ -103,6 +123,10 @@ fn shape(tally: &mut Tally, view: &View) {
     tally.meet(&format!("horizontal scroll mode {}", registers[11] & 3));
     tally.meet_if(registers[11] & 4 == 0, "vertical scroll, whole");
     tally.meet_if(registers[11] & 4 != 0, "vertical scroll, by two cells");
+    let scrolls = [Plane::A, Plane::B].map(|plane| planes::horizontal_scroll(view, plane));
+    tally.meet_if(scrolls[0] != scrolls[1], "horizontal scrolls of A and B differ");
+    let scrolls = [Plane::A, Plane::B].map(|plane| planes::vertical_scroll(view, plane, 0));
+    tally.meet_if(scrolls[0] != scrolls[1], "vertical scrolls of A and B differ");
     if let Some((wide, high)) = planes::plane_size(view.state) {
         tally.meet(&format!("plane {wide} by {high}"));
     }
@@ -171,7 +195,9 @@ fn kept_sprite(tally: &mut Tally, view: &View, kept: &Kept, place: usize) {
     let edge = 128 + view.width();
     let short = kept.columns < wide;
     tally.meet_if(kept.masked && place > 0, "masked sprite");
-    tally.meet_if(short && kept.columns > 0, "sprite cut short by used-up pixels");
+    let cut = short && kept.columns > 0;
+    tally.meet_if(cut, "sprite cut short by used-up pixels");
+    tally.meet_if(cut && sprite.cell.flip_h, "sprite cut short and flipped across");
     tally.meet_if(kept.columns == 0, "sprite with no pixels left");
     let off = right <= 128 || sprite.x >= edge;
     tally.meet_if(off && kept.columns > 0, "sprite used up while off the screen");
@@ -186,6 +212,22 @@ fn kept_sprite(tally: &mut Tally, view: &View, kept: &Kept, place: usize) {
         tally.meet(&format!("sprite {} cells wide", sprite.cells_wide));
         tally.meet(&format!("sprite {} cells high", sprite.cells_high));
     }
+}
+
+/// Do two solid pixels meet left or right of the visible columns?
+fn meet_beside(view: &View, walk: &Walk) -> bool {
+    let visible = 128..128 + view.width();
+    let mut taken = [false; 544];
+    for kept in walk.kept.iter().filter(|kept| !kept.masked) {
+        for column in 0..kept.columns {
+            let x = kept.sprite.x + column;
+            let solid = sprites::sprite_dot(view, &kept.sprite, column).solid();
+            if solid && !visible.contains(&x) && std::mem::replace(&mut taken[x], true) {
+                return true;
+            }
+        }
+    }
+    false
 }
 
 /// Layers of single sprites, to see which ones share a column.
@@ -208,15 +250,15 @@ fn fronts(tally: &mut Tally, view: &View, dots: &[Dot]) {
     let scroll_a = planes::horizontal_scroll(view, Plane::A).unwrap_or(0);
     let scroll_b = planes::horizontal_scroll(view, Plane::B).unwrap_or(0);
     let mut met = [false; 7];
-    let mut under = false;
+    let (mut under, mut covered) = (false, false);
     for (x, sprite) in dots.iter().enumerate() {
-        let a = if planes::window_here(view, x) {
-            planes::window_dot(view, x)
-        } else {
-            planes::plane_dot(view, Plane::A, scroll_a, x)
-        };
-        let b = planes::plane_dot(view, Plane::B, scroll_b, x);
-        let layers = [*sprite, a.unwrap_or_default(), b.unwrap_or_default()];
+        let plane = planes::plane_dot(view, Plane::A, scroll_a, x).unwrap_or_default();
+        let window = planes::window_dot(view, x).unwrap_or_default();
+        let windowed = planes::window_here(view, x);
+        let a = if windowed { window } else { plane };
+        covered |= windowed && !window.solid() && plane.solid();
+        let b = planes::plane_dot(view, Plane::B, scroll_b, x).unwrap_or_default();
+        let layers = [*sprite, a, b];
         met[front(layers)] = true;
         let high = layers[1..].iter().any(|dot| dot.solid() && dot.high);
         under |= sprite.solid() && !sprite.high && high;
@@ -225,6 +267,7 @@ fn fronts(tally: &mut Tally, view: &View, dots: &[Dot]) {
         tally.meet_if(met, name);
     }
     tally.meet_if(under, "low sprite under a high plane");
+    tally.meet_if(covered, "window's clear pixel where plane A has a solid one");
 }
 
 /// The place in FRONTS of what is seen.

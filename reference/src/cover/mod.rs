@@ -1,4 +1,4 @@
-//! Which answers and rules the generated streams meet, and which they never meet.
+//! Which answers and rules streams meet, and which they never meet.
 //! The counts come from looking at each call from outside, before and after it.
 
 mod lines;
@@ -8,12 +8,12 @@ mod runs;
 
 use std::collections::BTreeMap;
 
+use crate::answer::{Answer, TABLE_PAST_END};
 use crate::check::number_in;
 use crate::replay::{Command, Machine};
-use crate::streams::{stream, Kind};
 
-/// The answers each op can give at all.
-const ANSWERS: [(u8, &[u8]); 12] = [
+/// The answers that document 01 has for each op.
+const ANSWERS: [(u8, &[Answer]); 12] = [
     (1, &[0, 1, 2, 3, 6]),
     (2, &[0, 1, 2, 3, 6]),
     (3, &[0, 1, 2, 3, 6]),
@@ -21,16 +21,20 @@ const ANSWERS: [(u8, &[u8]); 12] = [
     (5, &[0, 1, 2, 3, 6]),
     (6, &[0, 1, 2, 3, 6]),
     (7, &[0, 1, 2, 6, 7]),
-    (8, &[0, 1, 2, 4, 5, 6]),
+    (8, &[0, 1, 2, 4, 5, 6, 9]),
     (9, &[0, 1, 2, 6]),
     (10, &[0, 1, 2, 8, 10]),
     (11, &[0, 2, 5]),
     (12, &[0]),
 ];
 
+/// Of these, a line's answer 9 can't be given: each table begins at a multiple of a power of two
+/// that is no less than the table's size, so none passes FFFFh.
+const NOT_GIVEN: (u8, Answer) = (8, TABLE_PAST_END);
+
 /// How often each answer and each rule was met.
 pub struct Tally {
-    answers: BTreeMap<(u8, u8), u64>,
+    answers: BTreeMap<(u8, Answer), u64>,
     rules: BTreeMap<String, u64>,
 }
 
@@ -42,7 +46,8 @@ impl Tally {
                 tally.answers.insert((op, *number), 0);
             }
         }
-        let named = [ports::rules(), runs::rules(), lines::rules(), refused::rules()];
+        let calls = (1..=9).map(recorded).collect();
+        let named = [calls, ports::rules(), runs::rules(), lines::rules(), refused::rules()];
         for rule in named.concat() {
             tally.rules.insert(rule, 0);
         }
@@ -87,13 +92,17 @@ impl Tally {
             7 => runs::count_run(self, &before),
             8 => lines::count(self, &before, machine),
             10 => runs::count_back(self, &before, machine),
-            _ => (),
+            _ => lines::count_row(self, &before),
         }
-        self.meet_if(before.taped() && command.op != 10, "recorded form");
+        if before.taped() {
+            self.meet(&recorded(command.op));
+        }
     }
 
-    fn never(&self) -> Vec<String> {
-        let answers = self.answers.iter().filter(|(_, times)| **times == 0);
+    /// What no stream has met.
+    pub fn never(&self) -> Vec<String> {
+        let unmet = self.answers.iter().filter(|(_, times)| **times == 0);
+        let answers = unmet.filter(|(answer, _)| **answer != NOT_GIVEN);
         let rules = self.rules.iter().filter(|(_, times)| **times == 0);
         answers
             .map(|((op, number), _)| format!("op {op} answer {number}"))
@@ -101,7 +110,7 @@ impl Tally {
             .collect()
     }
 
-    fn text(&self) -> String {
+    pub fn text(&self) -> String {
         let mut text = String::from("answers: op, number, times\n");
         for ((op, number), times) in &self.answers {
             text.push_str(&format!("  {op:2} {number:2} {times}\n"));
@@ -110,14 +119,9 @@ impl Tally {
         for (rule, times) in &self.rules {
             text.push_str(&format!("  {times:8} {rule}\n"));
         }
-        let never = self.never();
-        for rule in &never {
+        for rule in self.never() {
             text.push_str(&format!("never: {rule}\n"));
         }
-        if never.is_empty() {
-            text.push_str("never: nothing\n");
-        }
-        text.push_str("not counted: op 8 answer 9, as every table ends at or before FFFFh\n");
         text
     }
 }
@@ -134,15 +138,8 @@ impl Before {
     }
 }
 
-/// Generates streams of every kind, follows them and tells what they met.
-pub fn report(seeds: u64, count: usize) -> String {
-    let mut tally = Tally::new();
-    for (kind, _) in Kind::ALL {
-        for seed in 0..seeds {
-            tally.follow(&stream(seed, kind, count));
-        }
-    }
-    tally.text()
+fn recorded(op: u8) -> String {
+    format!("recorded form of op {op}")
 }
 
 /// Turns a list of names into rules.
@@ -153,6 +150,7 @@ pub fn names(list: &[&str]) -> Vec<String> {
 #[cfg(test)]
 mod tests {
     use super::*;
+    use crate::streams::{stream, Kind};
 
     /// Every rule that is counted is also listed, so that a gap can be seen.
     #[test]
@@ -164,5 +162,19 @@ mod tests {
         }
         assert_eq!(listed.rules.keys().collect::<Vec<_>>(), tally.rules.keys().collect::<Vec<_>>());
         assert_eq!(listed.answers.len(), tally.answers.len());
+    }
+
+    /// What a stream has not met is told, but not the answer that can't be given.
+    #[test]
+    fn what_never_came_up_is_told() {
+        let mut tally = Tally::new();
+        tally.follow(&[Command { op: 11, a: 0, b: 2_047, c: 7 }]);
+        let never = tally.never();
+        for met in ["op 11 answer 0", "pattern row 7", "pattern name 2,047", "op 8 answer 9"] {
+            assert!(!never.contains(&met.to_string()), "{met}");
+        }
+        for unmet in ["op 11 answer 5", "op 8 answer 0", "pattern row 6", "line 223"] {
+            assert!(never.contains(&unmet.to_string()), "{unmet}");
+        }
     }
 }

@@ -40,7 +40,6 @@ const RULES: &[&str] = &[
     "copy source turns past FFFFh",
     "copy under another code",
     "unit turns the address past FFFFh",
-    "recorded form",
     "step back of 0",
     "step back of 0 over a bad record",
     "step back of all",
@@ -59,6 +58,7 @@ const RULES: &[&str] = &[
     "undone: scroll 39",
     "undone: register 23",
     "undone: flag set again",
+    "undone: flag cleared again",
     "undone: pending set again",
 ];
 
@@ -177,6 +177,8 @@ pub fn count_back(tally: &mut Tally, before: &Before, after: &Machine) {
     tally.meet_if(first_word, "step back over a fill's first word");
     let flag = (now.overflow && !then.overflow) || (now.collision && !then.collision);
     tally.meet_if(flag, "undone: flag set again");
+    let flag = (then.overflow && !now.overflow) || (then.collision && !now.collision);
+    tally.meet_if(flag, "undone: flag cleared again");
     tally.meet_if(now.pending && !then.pending, "undone: pending set again");
     each_record(tally, before);
 }

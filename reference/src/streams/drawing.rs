@@ -14,20 +14,20 @@ pub fn fill(maker: &mut Maker) {
 
 /// One phrase of drawing.
 pub fn episode(maker: &mut Maker) {
-    match maker.below(25) {
+    match maker.below(27) {
         0..=3 => layout(maker),
         4..=8 => ring(maker),
         9 => chain(maker),
         10 | 11 => windows(maker),
         12 | 13 => scrolls(maker),
-        14 => rows(maker),
-        15 | 16 => unmodelled(maker),
-        17 | 18 => lengths(maker),
-        19 => blanked(maker),
-        20 => flags(maker),
-        21 => holes(maker),
-        22 => overlapping(maker),
-        23 => bad_state(maker),
+        14..=16 => rows(maker),
+        17 | 18 => unmodelled(maker),
+        19 | 20 => lengths(maker),
+        21 => blanked(maker),
+        22 => flags(maker),
+        23 => holes(maker),
+        24 => overlapping(maker),
+        25 => bad_state(maker),
         _ => (),
     }
     lines(maker);
@@ -176,8 +176,10 @@ fn some_x(maker: &mut Maker) -> u16 {
     maker.pick(&[0, 1, 100, 127, 128, 130, 130, 140, 383, 440, 447, 511, inside, inside, inside])
 }
 
-/// A ring of few sprites: visited again and again, it meets every limit.
+/// A ring of few sprites: visited again and again, it meets every limit. The flags are cleared first,
+/// so that it can be seen which ones the lines set.
 fn ring(maker: &mut Maker) {
+    maker.frame();
     let line = maker.below(220);
     let round = 1 + maker.below(5);
     for number in 0..=round {
@@ -234,13 +236,16 @@ fn overlapping(maker: &mut Maker) {
     maker.line(line + 8);
 }
 
+/// Pattern rows with names and rows at their edges and just past them, and the parts of a colour.
 fn rows(maker: &mut Maker) {
-    for _ in 0..3 {
+    for _ in 0..4 {
         let any = maker.word() % 2_048;
-        let name = maker.pick(&[0, 1, 2_047, 2_048, 65_535, any, any, any, any]);
-        let row = maker.pick(&[0, 1, 2, 3, 4, 5, 6, 7, 7, 8, u32::MAX]);
+        let name = maker.pick(&[0, 1, 2_047, 2_047, any, any, any, any, any, 2_048, 65_535]);
+        let row = maker.pick(&[0, 1, 2, 3, 4, 5, 6, 7, 7, 8, 256, u32::MAX]);
         maker.row(name, row);
     }
+    let (word, register0) = (maker.word(), maker.byte());
+    maker.colour(word, register0);
 }
 
 /// Each reason of answer 4 alone, then as it was.
@@ -310,5 +315,6 @@ fn bad_state(maker: &mut Maker) {
     maker.row(9, 1);
     maker.field(REMAINING, 0, 1);
     maker.line(4);
+    maker.row(9, 1);
     maker.calm();
 }

@@ -91,9 +91,9 @@ impl Maker {
         self.add(Command { op, a, b, c });
         if (1..=12).contains(&op) {
             self.calls += 1;
-            // The next line would hide this one's pixels, so lines and rows are looked at more.
+            // The next line would hide this one's pixels, so each line and row is looked at.
             let pixels = op == 8 || op == 11;
-            if self.calls % CALLS_A_DIGEST == 0 || (pixels && self.once_in(3)) {
+            if self.calls % CALLS_A_DIGEST == 0 || pixels {
                 self.add(Command { op: DIGESTS, a: 0, b: 0, c: 0 });
             }
         }

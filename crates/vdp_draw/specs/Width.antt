@@ -1,0 +1,6 @@
+-- The width of a line: document 01, Drawing ("Width 320 if register 12 bit 0 is set, else 256").
+use Prim.Native.Nat.{ℕ}
+use mathlib.Core.Bool.{Bool, cond}
+
+abbrev pub widthOf : Bool → ℕ
+widthOf wide = cond wide 320 256

@@ -1,0 +1,24 @@
+-- By the width.
+use borrow.Author.Needs.{needs}
+use mathlib.Core.Path.{sym, _∙_}
+use Rattle.vdp_line.proofs.layout.base_sprites.Statement.{statement}
+use Rattle.vdp_line.proofs.layout.base_sprites.Tie as tie
+
+returns : tie.Need-returns
+returns c = simp (sym (c .before .wide .ensures) ∙ c .if1 .taken)
+
+returns-2 : tie.Need-returns-2
+returns-2 c = simp (sym (c .before .wide .ensures) ∙ c .if1 .left)
+
+pub base-sprites-spec : {M : Type 1} → statement M
+base-sprites-spec =
+    tie.close
+    (tie.spec
+    (λ c. search needs)
+    (λ c κs. search needs)
+    (λ c. search needs)
+    (λ c. search needs)
+    (λ c. search needs)
+    (λ c. search needs)
+    returns
+    returns-2)

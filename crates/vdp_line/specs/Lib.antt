@@ -1,0 +1,6 @@
+pub mod Layer
+pub mod Layout
+pub mod Line
+pub mod Mix
+pub mod Plane
+pub mod View

@@ -1,0 +1,111 @@
+-- A line: document 01, Drawing and Numbers a call may answer.
+use Prim.Native.Nat.{ℕ, _+_, _*_, _/_}
+use mathlib.Core.Bool.{Bool, true, false, cond, not, _&&_, _||_, Bool·beq}
+use mathlib.Core.List.{List, [], _∷_, _++_}
+use lib.Dec.{eqb, leb, ltb}
+use lib.ListN.{length, getD, drop}
+use Rattle.vdp_state.specs.declared.answer.Answer.{Answer}
+use Rattle.vdp_state.specs.declared.state.Control.{Control}
+use Rattle.vdp_state.specs.declared.state.State.{State}
+use Rattle.vdp_state.specs.declared.state.Step.{Step}
+use Rattle.vdp_state.specs.declared.state.Store.the-variants.{Nothing}
+use Rattle.vdp_state.specs.Answer.{Test, gives, first, refused, done}
+use Rattle.vdp_state.specs.Cell.{after}
+use Rattle.vdp_state.specs.State.{Chip, withFlags}
+use Rattle.vdp_ports.specs.Refusal.{badState, badVram}
+use Rattle.vdp_draw.specs.Tabulate.{tabulate}
+use Rattle.vdp_draw.specs.Width.{widthOf}
+use Rattle.vdp_sprites.specs.declared.sprite_line.SpriteLine.{SpriteLine}
+use Rattle.vdp_sprites.specs.SpriteLine.{spriteLine}
+use Rattle.vdp_sprites.specs.Walk.{mostVisits}
+use Rattle.vdp_line.specs.Layer.{dotA, dotB}
+use Rattle.vdp_line.specs.Layout.{bit, wide, height, displayed, backdrop, baseA, baseB, baseWindow, baseSprites, codeAcross, codeDown, cells, scrollPlace}
+use Rattle.vdp_line.specs.Mix.{mix}
+use Rattle.vdp_line.specs.Plane.{windowColumns}
+
+-- 2: "pixel buffer not 320"
+abbrev pub badPixels : List ℕ → Test
+badPixels pixels = gives 2 (not (eqb (length pixels) 320))
+
+-- 5: "line at or above the height"
+abbrev pub noLine : State → ℕ → Test
+noLine s line = gives 5 (leb (height s) line)
+
+abbrev pub planeCells : State → ℕ
+planeCells s = cells (codeAcross s) * cells (codeDown s)
+
+-- 4: "register 0 bit 0 or 3 set; register 1 bit 7 or 0 set or bit 2 clear; register 12 bits 7 and 0 differ or any of bits
+-- 3-1 set; register 16 has size code 2 in either field or over 4,096 cells"
+abbrev pub notModelled : State → Test
+notModelled s =
+    gives 4
+    (bit s 0 0 || bit s 0 3 || bit s 1 7 || bit s 1 0 || not (bit s 1 2) || not (Bool·beq (bit s 12 7) (bit s 12 0))
+    || bit s 12 3 || bit s 12 2 || bit s 12 1 || eqb (codeAcross s) 2 || eqb (codeDown s) 2
+    || ltb 4096 (planeCells s))
+
+-- 9: "a table read in drawing would pass FFFFh": where the tables that this line reads end (of a plane any cell may be read,
+-- of the window the rows to this line's)
+abbrev pub tablePastEnd : State → ℕ → Test
+tablePastEnd s line =
+    gives 9
+    (ltb 65536 (baseA s + 2 * planeCells s)
+    || ltb 65536 (baseB s + 2 * planeCells s)
+    || ltb 65536 (baseWindow s + 2 * (windowColumns s * (line / 8 + 1)))
+    || ltb 65536 (baseSprites s + 8 * mostVisits (wide s)) || ltb 65536 (scrollPlace s line + 4))
+
+abbrev pub lineTests : Chip → ℕ → List ℕ → List Test
+lineTests c line pixels =
+    badState (c .state) ∷ badVram (c .vram) ∷ badPixels pixels ∷ noLine (c .state) line ∷ notModelled (c .state)
+    ∷ tablePastEnd (c .state) line ∷ []
+
+abbrev pub lineNumber : Chip → ℕ → List ℕ → ℕ
+lineNumber c line pixels = first (lineTests c line pixels)
+
+-- what the sprites give to the line
+abbrev pub spritesOf : Chip → ℕ → SpriteLine
+spritesOf c line = spriteLine (c .vram) (baseSprites (c .state)) (wide (c .state)) line
+
+-- the colour index on column x of a displayed line, with the sprites' dots
+abbrev pub mixed : Chip → ℕ → List ℕ → ℕ → ℕ
+mixed c line dots x = mix (backdrop (c .state)) (dotB c line x) (dotA c line x) (getD dots x 0)
+
+-- the visible columns drawn: "(bytes beyond untouched)"
+abbrev pub drawn : State → (ℕ → ℕ) → List ℕ → List ℕ
+drawn s pixel pixels = tabulate pixel (widthOf (wide s)) ++ drop (widthOf (wide s)) pixels
+
+-- "A line sets these flags and never clears them."
+abbrev pub flagged : Control → Bool → Bool → Control
+flagged k overflow collision =
+    withFlags k (record { overflow = k .flags .overflow || overflow; collision = k .flags .collision || collision })
+
+-- a line changes the control part and stores nothing: the sprites' flags, where it is displayed
+abbrev pub lineStep : Chip → ℕ → Step
+lineStep c n =
+    let found = spritesOf c n in
+    record {
+      control = cond (displayed (c .state)) (flagged (c .state .control) (found .overflow) (found .collision)) (c .state .control);
+      store = Nothing;
+    }
+
+-- "The visits are reported"; a blanked line has "no sprites visited"
+abbrev pub visits : Chip → ℕ → ℕ
+visits c n = cond (displayed (c .state)) (spritesOf c n .visits) 0
+
+abbrev pub linePixels : Chip → ℕ → List ℕ → List ℕ
+linePixels c n pixels =
+    drawn (c .state) (λ x. cond (displayed (c .state)) (mixed c n (spritesOf c n .dots) x) (backdrop (c .state))) pixels
+
+-- what a line leaves: its answer and the pixel buffer, which a refused line leaves untouched
+pub record LineDrawn : Type 0 where
+  pub answer : Answer
+  pub pixels : List ℕ
+
+abbrev pub lineDrawn : Answer → List ℕ → LineDrawn
+lineDrawn a pixels = record { answer = a; pixels = pixels }
+
+abbrev pub lineMade : Chip → ℕ → List ℕ → LineDrawn
+lineMade c n pixels = lineDrawn (done (visits c n) (after (c .state) (lineStep c n))) (linePixels c n pixels)
+
+abbrev pub line : Chip → ℕ → List ℕ → LineDrawn
+line c n pixels =
+    cond (eqb (lineNumber c n pixels) 0) (lineMade c n pixels) (lineDrawn (refused (lineNumber c n pixels) (c .state)) pixels)

@@ -1,0 +1,20 @@
+-- Mixing: document 01, Drawing ("Back to front: backdrop, low B, A, sprites, high B, A, sprites; pixel 0 is clear").
+use Prim.Native.Nat.{ℕ, _%_}
+use mathlib.Core.Bool.{Bool, cond, _&&_}
+use Rattle.vdp_draw.specs.Dot.{solid, high}
+
+-- the colour index of a dot
+abbrev pub index : ℕ → ℕ
+index dot = dot % 64
+
+-- a solid dot of high priority
+abbrev pub inFront : ℕ → Bool
+inFront dot = solid dot && high dot
+
+-- read from the front: the first that shows
+unfoldable pub mix : ℕ → ℕ → ℕ → ℕ → ℕ
+mix backdrop b a sprite =
+    cond (inFront sprite) (index sprite)
+    (cond (inFront a) (index a)
+    (cond (inFront b) (index b)
+    (cond (solid sprite) (index sprite) (cond (solid a) (index a) (cond (solid b) (index b) backdrop)))))

@@ -1,0 +1,7 @@
+pub mod Behind
+pub mod Column
+pub mod Kept
+pub mod Shown
+pub mod Sprite
+pub mod SpriteLine
+pub mod Walk

@@ -1,0 +1,49 @@
+-- The walk over the sprites of a line: document 01, Drawing; notes s15.
+use Prim.Native.Nat.{ℕ, zero, suc, _+_, _-_}
+use mathlib.Core.Bool.{Bool, true, false, cond, _||_}
+use mathlib.Core.List.{List, [], _∷_}
+use lib.Dec.{eqb, leb}
+use Rattle.vdp_sprites.specs.declared.sprite.Sprite.{Sprite}
+use Rattle.vdp_sprites.specs.Sprite.{spriteAt, onLine}
+
+-- "ends after 80 visits (64 at 256)", and a "21st (17th) sprite on the line" is one too many
+abbrev pub mostVisits : Bool → ℕ
+mostVisits wide = cond wide 80 64
+
+abbrev pub mostOnLine : Bool → ℕ
+mostOnLine wide = cond wide 20 16
+
+-- the numbers of the sprites kept, in order, how many were visited, and whether there was one too many
+pub record Walk : Type 0 where
+  pub kept : List ℕ
+  pub visits : ℕ
+  pub overflow : Bool
+
+abbrev pub walkOf : List ℕ → ℕ → Bool → Walk
+walkOf kept visits overflow = record { kept = kept; visits = visits; overflow = overflow }
+
+-- one visit more, before those of a walk
+abbrev pub visit : Walk → Walk
+visit w = walkOf (w .kept) (w .visits + 1) (w .overflow)
+
+abbrev pub keep : ℕ → Walk → Walk
+keep i w = walkOf (i ∷ w .kept) (w .visits) (w .overflow)
+
+-- "ends [..] at link 0, or a link at or above that number"
+abbrev pub onward : Bool → Sprite → Walk → Walk
+onward wide s w = cond (eqb (s .link) 0 || leb (mostVisits wide) (s .link)) (walkOf [] 0 false) w
+
+-- from sprite i on, with so many visits left and room on the line for so many more: "It stops on meeting a 21st (17th)
+-- sprite on the line: overflow", and that visit is counted
+abbrev pub walkFrom : List ℕ → ℕ → Bool → ℕ → ℕ → ℕ → ℕ → Walk
+walkFrom vram base wide line zero room i = walkOf [] 0 false
+walkFrom vram base wide line (suc left) room i =
+    let s = spriteAt vram base i in
+    visit
+    (cond (onLine s line)
+    (cond (eqb room 0) (walkOf [] 0 true) (keep i (onward wide s (walkFrom vram base wide line left (room - 1) (s .link)))))
+    (onward wide s (walkFrom vram base wide line left room (s .link))))
+
+-- "The walk starts at 0"
+abbrev pub walk : List ℕ → ℕ → Bool → ℕ → Walk
+walk vram base wide line = walkFrom vram base wide line (mostVisits wide) (mostOnLine wide) 0

@@ -1,0 +1,6 @@
+// The sprites of a line (document 01, Drawing): the walk over the table, what each kept sprite may show, and the dots
+// of the columns.
+pub mod paint;
+pub mod sprite;
+pub mod sprite_line;
+pub mod walk;

@@ -1,0 +1,29 @@
+// All that the sprites give to a line (document 01, Drawing).
+ghost use mathlib.Core.Path.{_≡_};
+ghost use Rattle.vdp_sprites.specs.SpriteLine.{spriteLine};
+use crate::paint::paint_kept;
+use crate::walk::walk;
+use vdp_draw::width::width_of;
+
+// The dots of the 320 columns, clear past the width; the visits; one sprite too many; two solid pixels on a column.
+pub struct SpriteLine {
+    pub dots: [u8; 320],
+    pub visits: u8,
+    pub overflow: bool,
+    pub collision: bool,
+}
+
+// Walks the table at a base and lays the sprites of a line on its columns.
+pub fn sprite_line(vram: &[u8], base: u16, wide: bool, line: u8) -> SpriteLine
+    ensures { λ r. ⌜ r ≡ spriteLine (now (vram .entry)) base wide line ⌝ }
+{
+    let w = walk(vram, base, wide, line);
+    let mut dots = [0u8; 320];
+    let collision = paint_kept(vram, base, w, line, width_of(wide), &mut dots);
+    SpriteLine {
+        dots,
+        visits: w.visits,
+        overflow: w.overflow,
+        collision,
+    }
+}

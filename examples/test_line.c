@@ -1,0 +1,397 @@
+/* Tests of kuthbareen_line. What is expected is painted the other way round: from the patterns onto sheets, cell by
+ * cell, and from the sheets onto the screen, back to front. */
+#include "testing.h"
+
+/* The planes have 64 x 32 cells; sheets and screen are as large. */
+enum { WIDE = 512, HIGH = 256 };
+
+/* Where the tables lie, and the backdrop. */
+enum { SCROLLS = 0x8000, WINDOW = 0xA000, SPRITES = 0xB000, PLANE_A = 0xC000, PLANE_B = 0xE000, BACKDROP = 0x2A };
+
+/* Pixels are drawn between bytes that must stay. */
+enum { MARGIN = 8, KEPT = 0xA5 };
+
+typedef struct {
+    uint8_t index[HIGH][WIDE]; /* 0 is clear: no solid pixel of these tests has that index */
+    bool high[HIGH][WIDE];
+} sheet;
+
+static uint8_t vram[KUTHBAREEN_VRAM_SIZE + 1];
+static uint8_t pixels[MARGIN + KUTHBAREEN_LINE_SIZE + MARGIN];
+static sheet plane_a, plane_b, sprites;
+static uint8_t screen[HIGH][WIDE];
+
+static void put_word(unsigned at, unsigned word)
+{
+    vram[at] = (uint8_t)(word >> 8);
+    vram[at + 1] = (uint8_t)word;
+}
+
+/* Flips: 1 across, 2 down. */
+static unsigned cell(unsigned high, unsigned palette, unsigned flips, unsigned name)
+{
+    return high << 15 | palette << 13 | flips << 11 | name;
+}
+
+/* The patterns' pixels. Name 0 is clear. */
+static unsigned pixel(unsigned name, unsigned row, unsigned column)
+{
+    return name == 0 ? 0 : (name * 5 + row * 7 + column * 3 + row * column) & 15;
+}
+
+static void lay_patterns(void)
+{
+    unsigned i;
+    memset(vram, 0, sizeof vram);
+    for (i = 0; i < 64 * 32; i++)
+        vram[i] = (uint8_t)(pixel(i / 32, i / 4 % 8, i % 4 * 2) << 4 | pixel(i / 32, i / 4 % 8, i % 4 * 2 + 1));
+    memset(&plane_a, 0, sizeof plane_a);
+    memset(&plane_b, 0, sizeof plane_b);
+    memset(&sprites, 0, sizeof sprites);
+}
+
+/* Paints a cell with its left upper corner at x, y; sheets go round. */
+static void paint(sheet *s, unsigned x, unsigned y, unsigned word)
+{
+    unsigned row, column;
+    for (row = 0; row < 8; row++)
+        for (column = 0; column < 8; column++) {
+            unsigned dot = pixel(word & 2047, row, column);
+            unsigned down = (y + (word >> 12 & 1 ? 7 - row : row)) % HIGH;
+            unsigned across = (x + (word >> 11 & 1 ? 7 - column : column)) % WIDE;
+            if (dot != 0) {
+                s->index[down][across] = (uint8_t)((word >> 13 & 3) * 16 + dot);
+                s->high[down][across] = word >> 15;
+            }
+        }
+}
+
+/* Lays a sheet's pixels of one priority onto the screen. */
+static void lay(const sheet *s, bool high)
+{
+    unsigned x, y;
+    for (y = 0; y < HIGH; y++)
+        for (x = 0; x < WIDE; x++)
+            if (s->index[y][x] != 0 && s->high[y][x] == high)
+                screen[y][x] = s->index[y][x];
+}
+
+static void lay_all(void)
+{
+    int high;
+    memset(screen, BACKDROP, sizeof screen);
+    for (high = 0; high < 2; high++) {
+        lay(&plane_b, high);
+        lay(&plane_a, high);
+        lay(&sprites, high);
+    }
+}
+
+/* A chip that draws from the tables above, 320 or 256 pixels wide. */
+static kuthbareen_state showing(unsigned width)
+{
+    kuthbareen_state chip = kuthbareen_fresh(false);
+    chip.registers[0] = 0x04;
+    chip.registers[1] = 0x44;
+    chip.registers[2] = PLANE_A >> 10;
+    chip.registers[3] = WINDOW >> 10;
+    chip.registers[4] = PLANE_B >> 13;
+    chip.registers[5] = SPRITES >> 9;
+    chip.registers[7] = 0xC0 | BACKDROP;
+    chip.registers[12] = width == 320 ? 0x81 : 0x00;
+    chip.registers[13] = SCROLLS >> 10;
+    chip.registers[16] = 0x01;
+    return chip;
+}
+
+static kuthbareen_answer draw(kuthbareen_state *chip, uint32_t line)
+{
+    memset(pixels, KEPT, sizeof pixels);
+    return kuthbareen_line(chip, vram, KUTHBAREEN_VRAM_SIZE, line, pixels + MARGIN, KUTHBAREEN_LINE_SIZE);
+}
+
+/* Are all bytes outside these columns as they were? */
+static bool kept_outside(unsigned width)
+{
+    unsigned i;
+    for (i = 0; i < sizeof pixels; i++)
+        if ((i < MARGIN || i >= MARGIN + width) && pixels[i] != KEPT)
+            return false;
+    return true;
+}
+
+/* Every line of the height is the screen's, VRAM stays, and so many sprites are visited. */
+static void compare(const char *what, kuthbareen_state *chip, unsigned width, unsigned visits)
+{
+    unsigned line;
+    lay_all();
+    for (line = 0; line < 224; line++) {
+        kuthbareen_answer answer = draw(chip, line);
+        expect(what, answer.number, KUTHBAREEN_DONE);
+        expect(what, answer.result, visits);
+        expect(what, memcmp(pixels + MARGIN, screen[line], width), 0);
+        expect("bytes outside the width", kept_outside(width), 1);
+    }
+}
+
+/* One cell of a plane, with each flip, moved right and up by its scrolls. */
+static void one_cell(unsigned width)
+{
+    unsigned flips, b;
+    for (b = 0; b < 2; b++)
+        for (flips = 0; flips < 4; flips++) {
+            unsigned h = flips * 117, v = flips * 301, word = cell(flips & 1, 3 - flips, flips, 9 + flips);
+            kuthbareen_state chip = showing(width);
+            lay_patterns();
+            put_word((b ? PLANE_B : PLANE_A) + 2 * (3 * 64 + 5), word);
+            put_word(SCROLLS + 2 * b, 0xFC00 | h);
+            chip.vsram[b] = (uint16_t)v;
+            paint(b ? &plane_b : &plane_a, 5 * 8 + h, 3 * 8 + 4 * HIGH - v, word);
+            compare("one cell", &chip, width, 1);
+        }
+}
+
+/* The entry of the scroll table for a line, in each of the four modes. */
+static void scroll_modes(void)
+{
+    unsigned mode, line, x;
+    kuthbareen_state chip = showing(320);
+    lay_patterns();
+    for (line = 0; line < 224; line++) {
+        put_word(SCROLLS + 4 * line, line);
+        put_word(PLANE_A + 2 * (line / 8 * 64 + 10), cell(0, 2, 0, 7));
+        paint(&plane_a, 8 * 10, line / 8 * 8, cell(0, 2, 0, 7));
+    }
+    lay_all();
+    for (mode = 0; mode < 4; mode++)
+        for (line = 0; line < 224; line++) {
+            unsigned h[4] = {0, line & 7, line & ~7u, line}, differing = 0;
+            chip.registers[11] = (uint8_t)mode;
+            expect("scroll mode", draw(&chip, line).number, KUTHBAREEN_DONE);
+            for (x = 0; x < 320; x++)
+                differing += pixels[MARGIN + x] != screen[line][(x + WIDE - h[mode]) % WIDE];
+            expect("columns that differ", differing, 0);
+        }
+}
+
+/* A window in the leftmost 32 columns takes the place of plane A, also where its own cells are clear, and is not
+ * scrolled. */
+static void window(unsigned width)
+{
+    unsigned column, wide = width == 320 ? 64 : 32;
+    kuthbareen_state chip = showing(width);
+    lay_patterns();
+    chip.registers[17] = 2;
+    for (column = 0; column < width / 8; column++) {
+        unsigned a = cell(0, 1, 0, 5 + column % 3), w = column % 2 ? cell(1, 2, 3, 8) : 0;
+        put_word(PLANE_A + 2 * (7 * 64 + column), a);
+        put_word(WINDOW + 2 * (6 * wide + column), w);
+        if (column < 4)
+            paint(&plane_a, 8 * column, 6 * 8, w);
+        else
+            paint(&plane_a, 8 * column, 7 * 8 - 3, a);
+    }
+    chip.vsram[0] = 3;
+    compare("window", &chip, width, 1);
+}
+
+/* Writes a sprite's entry: y and x as on the screen, size width and height in cells less one. */
+static void put_sprite(unsigned number, int y, unsigned size, unsigned link, unsigned word, int x)
+{
+    put_word(SPRITES + 8 * number, 0xFE00 | (unsigned)(y + 128));
+    put_word(SPRITES + 8 * number + 2, size << 8 | link);
+    put_word(SPRITES + 8 * number + 4, word);
+    put_word(SPRITES + 8 * number + 6, 0xFE00 | (unsigned)(x + 128));
+}
+
+/* Paints a sprite; a flip changes the places of its cells and flips each of them. */
+static void paint_sprite(int y, unsigned size, unsigned word, int x)
+{
+    unsigned wide = size / 4 + 1, high = size % 4 + 1, n;
+    for (n = 0; n < wide * high; n++) {
+        unsigned across = word >> 11 & 1 ? wide - 1 - n / high : n / high;
+        unsigned down = word >> 12 & 1 ? high - 1 - n % high : n % high;
+        paint(&sprites, (unsigned)(x + WIDE) + 8 * across, (unsigned)(y + HIGH) + 8 * down, word + n);
+    }
+}
+
+/* One sprite of each size with each flip, also over the edges of the screen. */
+static void one_sprite(unsigned width)
+{
+    unsigned size, flips;
+    for (size = 0; size < 16; size++)
+        for (flips = 0; flips < 4; flips++) {
+            int y = (int)(size * 15) - 9, x = (int)(flips * (width / 3)) - 6;
+            unsigned word = cell(flips >> 1, flips, flips, 20 + size);
+            kuthbareen_state chip = showing(width);
+            lay_patterns();
+            put_sprite(0, y, size, 0, word, x);
+            paint_sprite(y, size, word, x);
+            compare("one sprite", &chip, width, 1);
+        }
+}
+
+/* Each of B, A and a sprite absent, low or high: 27 columns of cells. Plane A's cells are moved right by 2 pixels and
+ * the sprites by 4, so that what is behind shows beside them. */
+static void priorities(void)
+{
+    kuthbareen_state chip = showing(320);
+    unsigned column, visits = 0;
+    lay_patterns();
+    put_word(SCROLLS, 2);
+    for (column = 0; column < 27; column++) {
+        unsigned b = column % 3, a = column / 3 % 3, s = column / 9;
+        unsigned words[3] = {b ? cell(b - 1, 1, 0, 1) : 0, a ? cell(a - 1, 2, 1, 2) : 0, cell(s == 2, 3, 2, 3)};
+        put_word(PLANE_B + 2 * column, words[0]);
+        put_word(PLANE_A + 2 * column, words[1]);
+        paint(&plane_b, 8 * column, 0, words[0]);
+        paint(&plane_a, 8 * column + 2, 0, words[1]);
+        if (s != 0) {
+            put_sprite(visits, 0, 0, column == 26 ? 0 : visits + 1, words[2], (int)(8 * column + 4));
+            paint_sprite(0, 0, words[2], (int)(8 * column + 4));
+            visits++;
+        }
+    }
+    expect("18 sprites", visits, 18);
+    compare("priorities", &chip, 320, visits);
+    expect("no overflow", chip.control.flags.overflow, 0);
+    expect("no collision", chip.control.flags.collision, 0);
+}
+
+/* The earlier of two sprites is in front, though the later one has the priority; they collide. */
+static void two_sprites(void)
+{
+    kuthbareen_state chip = showing(320);
+    lay_patterns();
+    put_sprite(0, 50, 5, 1, cell(0, 0, 0, 30), 100);
+    put_sprite(1, 55, 10, 0, cell(1, 1, 3, 40), 107);
+    paint_sprite(55, 10, cell(1, 1, 3, 40), 107);
+    paint_sprite(50, 5, cell(0, 0, 0, 30), 100);
+    compare("two sprites", &chip, 320, 2);
+    expect("collision", chip.control.flags.collision, 1);
+    expect("no overflow", chip.control.flags.overflow, 0);
+    /* pattern 0 is clear */
+    put_sprite(1, 55, 0, 0, cell(1, 1, 3, 0), 107);
+    chip.control.flags.collision = false;
+    expect("visits", draw(&chip, 55).result, 2);
+    expect("clear pixels do not collide", chip.control.flags.collision, 0);
+}
+
+/* As many sprites on a line as it takes, then one more and two more: the walk stops at the first that is too many. The
+ * flag stays set on other lines. */
+static void limits(unsigned width, unsigned most)
+{
+    unsigned more, number;
+    for (more = 0; more < 3; more++) {
+        unsigned over = more > 0;
+        kuthbareen_state chip = showing(width);
+        lay_patterns();
+        for (number = 0; number < most + more; number++)
+            put_sprite(number, 60, 0, (number + 1) % (most + more), cell(0, 0, 0, 1), (int)(10 * number));
+        expect("visits", draw(&chip, 60).result, most + over);
+        expect("overflow", chip.control.flags.overflow, over);
+        expect("no collision", chip.control.flags.collision, 0);
+        expect("visits on another line", draw(&chip, 68).result, most + more);
+        expect("overflow stays", chip.control.flags.overflow, over);
+    }
+}
+
+/* A blanked line: the backdrop alone, no sprite visited, the flags as they were. */
+static void blanked(unsigned width)
+{
+    unsigned line, i;
+    kuthbareen_state chip = showing(width), before;
+    lay_patterns();
+    put_sprite(0, 0, 15, 1, cell(1, 1, 0, 1), 0);
+    put_sprite(1, 0, 15, 0, cell(1, 1, 0, 1), 0);
+    chip.registers[1] = 0x04;
+    chip.control.flags.overflow = true;
+    before = chip;
+    for (line = 0; line < 224; line += 223) {
+        kuthbareen_answer answer = draw(&chip, line);
+        expect("blanked", answer.number, KUTHBAREEN_DONE);
+        expect("no visits", answer.result, 0);
+        for (i = 0; i < width; i++)
+            expect("backdrop", pixels[MARGIN + i], BACKDROP);
+        expect("bytes outside the width", kept_outside(width), 1);
+        expect("state as it came", same_state(&chip, &before), 1);
+    }
+}
+
+/* A refused line gives its number and leaves state, VRAM and pixels as they came. */
+static void refused(const char *what, kuthbareen_state *chip, size_t size, uint32_t line, size_t room, unsigned wanted)
+{
+    static uint8_t vram_before[sizeof vram];
+    kuthbareen_state before = *chip;
+    kuthbareen_answer answer;
+    memcpy(vram_before, vram, sizeof vram);
+    memset(pixels, KEPT, sizeof pixels);
+    answer = kuthbareen_line(chip, vram, size, line, pixels + MARGIN, room);
+    expect(what, answer.number, wanted);
+    expect("result of a refused line", answer.result, 0);
+    expect("state of a refused line", same_state(chip, &before), 1);
+    expect("VRAM of a refused line", memcmp(vram, vram_before, sizeof vram), 0);
+    expect("pixels of a refused line", kept_outside(0), 1);
+}
+
+/* Everything wrong at once, mended one by one in the order of the numbers: 1, 2, 5, 4. */
+static void refusals_in_order(void)
+{
+    kuthbareen_state chip = showing(256);
+    lay_patterns();
+    chip.control.port.code = 64;
+    chip.registers[0] |= 0x01;
+    refused("1 first", &chip, 65535, 224, 319, KUTHBAREEN_BAD_STATE);
+    chip.control.port.code = 63;
+    refused("2 for VRAM", &chip, 65535, 224, 319, KUTHBAREEN_BAD_BUFFER);
+    refused("2 for the pixels", &chip, 65536, 224, 319, KUTHBAREEN_BAD_BUFFER);
+    refused("then 5", &chip, 65536, 224, 320, KUTHBAREEN_NO_SUCH_PLACE);
+    refused("then 4", &chip, 65536, 223, 320, KUTHBAREEN_NOT_MODELLED);
+    chip.registers[0] &= 0xFE;
+    expect("all mended", draw(&chip, 223).number, KUTHBAREEN_DONE);
+    refused("VRAM long", &chip, 65537, 0, 320, KUTHBAREEN_BAD_BUFFER);
+    refused("VRAM empty", &chip, 0, 0, 320, KUTHBAREEN_BAD_BUFFER);
+    refused("pixels long", &chip, 65536, 0, 321, KUTHBAREEN_BAD_BUFFER);
+    refused("pixels for the width alone", &chip, 65536, 0, 256, KUTHBAREEN_BAD_BUFFER);
+    refused("no pixels", &chip, 65536, 0, 0, KUTHBAREEN_BAD_BUFFER);
+    refused("the last number", &chip, 65536, UINT32_MAX, 320, KUTHBAREEN_NO_SUCH_PLACE);
+    chip.registers[1] |= 0x08;
+    expect("line 239", draw(&chip, 239).number, KUTHBAREEN_DONE);
+    refused("line 240", &chip, 65536, 240, 320, KUTHBAREEN_NO_SUCH_PLACE);
+}
+
+/* Each register bit that is not modelled, shown and blanked. */
+static void not_modelled(void)
+{
+    static const uint8_t wrong[][2] = {{0, 0x01},  {0, 0x08},  {1, 0xC4},  {1, 0x45},  {1, 0x40},
+                                       {12, 0x80}, {12, 0x01}, {12, 0x83}, {12, 0x85}, {12, 0x89},
+                                       {16, 0x02}, {16, 0x20}, {16, 0x31}, {16, 0x13}};
+    unsigned i, blank;
+    lay_patterns();
+    for (i = 0; i < sizeof wrong / sizeof wrong[0]; i++)
+        for (blank = 0; blank < 2; blank++) {
+            kuthbareen_state chip = showing(320);
+            chip.registers[wrong[i][0]] = wrong[i][1];
+            if (blank)
+                chip.registers[1] &= 0xBF;
+            refused("not modelled", &chip, 65536, 0, 320, KUTHBAREEN_NOT_MODELLED);
+        }
+}
+
+int main(void)
+{
+    unsigned width;
+    for (width = 256; width <= 320; width += 64) {
+        one_cell(width);
+        window(width);
+        one_sprite(width);
+        limits(width, width / 16);
+        blanked(width);
+    }
+    scroll_modes();
+    priorities();
+    two_sprites();
+    refusals_in_order();
+    not_modelled();
+    return tested();
+}
