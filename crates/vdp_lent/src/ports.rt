@@ -1,9 +1,8 @@
 // The port accesses and the new frame over a state that is lent (document 01, Ports).
 ghost use mathlib.Core.Path.{_≡_};
-ghost use Prim.Native.Nat.{_*_};
 ghost use Rattle.vdp_state.specs.Answer.{outcome};
 ghost use Rattle.vdp_state.specs.State.{chip};
-ghost use Rattle.vdp_ports.specs.Control.{controlWrite};
+ghost use Rattle.vdp_ports.specs.Control.{byteWord, controlWrite};
 ghost use Rattle.vdp_ports.specs.Data.{dataWrite, dataRead};
 ghost use Rattle.vdp_ports.specs.Frame.{newFrame};
 ghost use Rattle.vdp_ports.specs.Status.{statusRead};
@@ -34,7 +33,7 @@ pub extern "C" fn kuthbareen_control_write(s: &mut State, w: u16) -> Given
 // Writes a byte to the control port: the byte stands in both halves of the word.
 #[no_mangle]
 pub extern "C" fn kuthbareen_control_write_byte(s: &mut State, b: u8) -> Given
-    ensures { λ r. ⌜ withState r (now (s .exit)) ≡ controlWrite (now (s .entry)) (257 * b) ⌝ }
+    ensures { λ r. ⌜ withState r (now (s .exit)) ≡ controlWrite (now (s .entry)) (byteWord b) ⌝ }
 {
     let answer = control_write_byte(*s, b);
     *s = answer.state;
@@ -60,7 +59,7 @@ pub extern "C" fn kuthbareen_data_write(s: &mut State, vram: &mut [u8], w: u16) 
 // Writes a byte to the data port: the byte stands in both halves of the word.
 #[no_mangle]
 pub extern "C" fn kuthbareen_data_write_byte(s: &mut State, vram: &mut [u8], b: u8) -> Given
-    ensures { λ r. ⌜ outcome (withState r (now (s .exit))) (now (vram .exit)) ≡ dataWrite (chip (now (s .entry)) (now (vram .entry))) (257 * b) ⌝ }
+    ensures { λ r. ⌜ outcome (withState r (now (s .exit))) (now (vram .exit)) ≡ dataWrite (chip (now (s .entry)) (now (vram .entry))) (byteWord b) ⌝ }
 {
     let answer = data_write_byte(*s, vram, b);
     *s = answer.state;

@@ -18,6 +18,10 @@ use Rattle.vdp_ports.specs.Refusal.{badState, busy}
 abbrev pub port : ℕ → ℕ → Bool → Port
 port address code pending = record { address = address; code = code; pending = pending }
 
+-- "A byte write of b is the word 257 x b."
+abbrev pub byteWord : ℕ → ℕ
+byteWord b = 257 * b
+
 -- a waiting fill is dropped
 abbrev pub fillDropped : Dma → Dma
 fillDropped d = cond (eqb (d .kind) 1) idle d

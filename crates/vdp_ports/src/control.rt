@@ -1,7 +1,7 @@
 // The control port (document 01, Ports and DMA; notes s7 and s11): what a control word does.
 ghost use mathlib.Core.Path.{_≡_};
 ghost use Prim.Native.Nat.{_+_, _*_};
-ghost use Rattle.vdp_ports.specs.Control.{fillDropped, registerWrite, firstHalf, secondHalf, dmaStarted, dmaAfter, controlStep, controlNumber, controlWrite};
+ghost use Rattle.vdp_ports.specs.Control.{byteWord, fillDropped, registerWrite, firstHalf, secondHalf, dmaStarted, dmaAfter, controlStep, controlNumber, controlWrite};
 use crate::length::byte_length;
 use crate::length::copy;
 use crate::length::fill_waiting;
@@ -158,7 +158,7 @@ pub fn control_write(s: State, w: u16) -> Answer
 
 // Writes a byte to the control port: the byte stands in both halves of the word.
 pub fn control_write_byte(s: State, b: u8) -> Answer
-    ensures { λ r. ⌜ r ≡ controlWrite s (257 * b) ⌝ }
+    ensures { λ r. ⌜ r ≡ controlWrite s (byteWord b) ⌝ }
 {
     control_write(s, 257 * (b as u16))
 }

@@ -33,6 +33,7 @@ use Rattle.vdp_dma.specs.Source.{workRam, wordFrom, nextSource}
 use Rattle.vdp_dma.specs.Unit.{byteStored, unitDma, unitControl, writesVram, inverted, unit}
 use Rattle.vdp_dma.proofs.Accepted.{source-good}
 use Rattle.vdp_dma.proofs.Words.{next-even}
+use Rattle.vdp_tape.specs.OneStep.{OffVram}
 use Rattle.vdp_tape.proofs.Records.{DmaFacts, dma-facts}
 
 -- ---- control parts
@@ -145,6 +146,14 @@ unfolding controlStep
 control-good c w h g =
     by-cond GoodStep (c .state .control .port .pending) _ _ (λ e. second-good (c .state) w (g .registers) (g .control))
     (λ e. by-cond GoodStep (eqb (w / 16384) 2) _ _ (λ f. register-good (c .state .control) w (g .control)) (λ f. first-good (c .state .control) w h (g .control)))
+
+-- a control word stores a register or nothing
+pub control-off : (s : State) (w : ℕ) → OffVram (controlStep s w .store)
+unfolding controlStep
+control-off s w =
+    let Off : Step → Type 0 = λ t. OffVram (t .store) in
+    by-cond Off (s .control .port .pending) _ _ (λ e. tt)
+    (λ e. by-cond Off (eqb (w / 16384) 2) _ _ (λ f. by-cond Off (ltb (w / 256 % 32) 24) _ _ (λ h. tt) (λ h. tt)) (λ f. tt))
 
 -- ---- stores
 module _ (b g r : ℕ) (hb : b < 8) (hg : g < 8) (hr : r < 8) where

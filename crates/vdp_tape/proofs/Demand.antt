@@ -16,9 +16,9 @@ use Rattle.vdp_state.specs.Cell.{perform, undoing}
 use Rattle.vdp_state.specs.Range.{GoodChip, GoodStep}
 use Rattle.vdp_state.specs.State.{Chip, chip}
 use Rattle.vdp_state.proofs.Laws.{undone, performed-good, undoing-good, both}
-use Rattle.vdp_tape.specs.Book.{Call, Book, newBook, turned, turnedBack, Entry, entry, enterBy, enterBack, enter}
-use Rattle.vdp_tape.specs.Demand.{Seen, seen, seenInBook, serve}
-use Rattle.vdp_tape.specs.Number.{capacity, recordedNumber, withTape}
+use Rattle.vdp_tape.specs.Book.{Book, turned, turnedBack, Entry, entry, enterBy, enterBack}
+use Rattle.vdp_tape.specs.Demand.{seen, seenInBook}
+use Rattle.vdp_tape.specs.Number.{capacity, recordedNumber}
 use Rattle.vdp_tape.specs.Record.{recordOf, stepOf, goodRecord, recordAt}
 use Rattle.vdp_tape.specs.Recorder.{Recorder, recorder, recordStep, recordSteps, Plan, Reply, replied, recordedBy}
 use Rattle.vdp_tape.specs.StepBack.{topGood, undo, backTests, backNumber, stepBack}
@@ -145,7 +145,7 @@ plan-together p r b a good =
     let same : number ≡ recordedNumber (p .tests) (length (b .pages)) (b .capacity) (p .steps) = ap₂ (λ (k room : ℕ). recordedNumber (p .tests) k room (p .steps)) (a .count) (a .room) in
     let done : number ≡ 0 → Alike (recordSteps (p .step) (p .steps) r) (turned (p .step) (p .steps) b) = λ z.
     let q = accepted (first (p .tests)) (r .count) (capacity (r .tape)) (p .steps) (sym (recorded-number (p .tests) (r .count) (capacity (r .tape)) (p .steps)) ∙ z) in
-    steps-alike (p .step) (p .steps) r b a (good (q .plain-done)) (omega (arith, q .within, q .fits)) in
+    steps-alike (p .step) (p .steps) r b a (good (q .plain-done)) (q .fits) in
     subst (λ (n : ℕ). Together (recordedBy p r) (entry n b (turned (p .step) (p .steps) b))) same
     (together number (p .result) r (recordSteps (p .step) (p .steps) r) b (turned (p .step) (p .steps) b) a done)
 

@@ -10,36 +10,67 @@ use lib.ListN.{length, take, drop}
 use Rattle.vdp_state.specs.declared.state.State.{State}
 use Rattle.vdp_state.specs.declared.state.Step.{Step}
 use Rattle.vdp_state.specs.declared.state.Store.{Store}
-use Rattle.vdp_state.specs.Answer.{Test, first}
+use Rattle.vdp_state.specs.declared.state.Store.the-variants.{Nothing, Vram, Cram, Vsram, Register}
 use Rattle.vdp_state.specs.Cell.{perform, undoing, present, storedIn}
 use Rattle.vdp_state.specs.Good.{good}
 use Rattle.vdp_state.specs.State.{Chip, chip}
 use Rattle.vdp_dma.proofs.Accepted.{cond-zero, none}
-use Rattle.vdp_tape.specs.Number.{capacity, withTape}
+use Rattle.vdp_tape.specs.Number.{capacity, recordedNumber}
+use Rattle.vdp_tape.specs.OneStep.{OneStep, OffVram}
 use Rattle.vdp_tape.specs.Record.{stepOf, goodRecord, recordAt}
-use Rattle.vdp_tape.specs.Recorder.{Recorder, recorder, recordStep, recordSteps, Reply, replied, recordedBy, oneStep, beside}
+use Rattle.vdp_tape.specs.Recorder.{Recorder, recorder, recordStep, recordSteps, Plan, Reply, replied, recordedBy}
 use Rattle.vdp_tape.specs.StepBack.{topGood, undo, backNumber}
-use Rattle.vdp_tape.proofs.Numbers.{recorded-number}
 
 pub empty : (l : List ℕ) → length l ≡ 0 → l ≡ []
 empty [] e = refl
 empty (x ∷ l) e = absurd (let bad : ⊥ = omega arith in bad)
 
--- a recorded call of one step is made by its plain form's number, result and step
-pub one-recorded : (tests : List Test) (result : ℕ) (step : Chip → Step) (r : Recorder) (plain w : ℕ) (t : Step) → plain ≡ first tests → w ≡ result → t ≡ step (r .chip) → oneStep plain w r t ≡ recordedBy (record { tests = tests; result = result; steps = 1; step = step }) r
-one-recorded tests result step r plain w t p q e =
-    ap (λ (n : ℕ). oneStep n w r t) p ∙ ap₂ (λ (k : ℕ) (x : Step). oneStep (first tests) k r x) q e
-    ∙ ap (λ (n : ℕ). replied n result r (recordStep r (step (r .chip)))) (sym (recorded-number tests (r .count) (capacity (r .tape)) 1))
+-- ---- refused and done
+module _ (result : ℕ) (before after : Recorder) where
+  pub replied-refused : (n m : ℕ) → n ≡ m → (n ≡ 0 → ⊥) → record { number = n; result = 0; recorder = before } ≡ replied m result before after
+  replied-refused n m e h = sym (simp (ne-eqb n 0 h)) ∙ ap (λ (k : ℕ). replied k result before after) e
 
--- a step that neither stores to VRAM nor keeps a VRAM word is recorded alike beside any VRAM
-module _ (vram : List ℕ) (s : State) (tape : List ℕ) (count : ℕ) (t : Step) (kept : present (chip s []) (t .store) ≡ present (chip s vram) (t .store)) (stays : storedIn vram (t .store) ≡ vram) where
-  pub beside-vram : (plain result : ℕ) → beside vram (oneStep plain result (recorder s [] tape count) t) ≡ oneStep plain result (recorder s vram tape count) t
-  unfolding recordStep perform undoing
-  beside-vram plain result = by-number (eqb (withTape plain (ltb (capacity tape) count) (ltb (capacity tape - count) 1)) 0) refl
-    where
-      by-number : (b : Bool) → eqb (withTape plain (ltb (capacity tape) count) (ltb (capacity tape - count) 1)) 0 ≡ b → beside vram (oneStep plain result (recorder s [] tape count) t) ≡ oneStep plain result (recorder s vram tape count) t
-      by-number true e = simp (e, kept, stays)
-      by-number false e = simp e
+  pub replied-done : (n m : ℕ) → n ≡ m → n ≡ 0 → record { number = 0; result = result; recorder = after } ≡ replied m result before after
+  replied-done n m e z = sym (simp (sym e ∙ z))
+
+-- a plan of one step replies by its number, its result and its step
+pub one-replied : (p : Plan) (r : Recorder) (plain result : ℕ) (t : Step) → OneStep p (r .chip) plain result t → recordedBy p r ≡ replied (recordedNumber (p .tests) (r .count) (capacity (r .tape)) 1) result r (recordStep r t)
+one-replied p r plain result t o =
+    ap (λ (n : ℕ). replied (recordedNumber (p .tests) (r .count) (capacity (r .tape)) n) (p .result) r (recordSteps (p .step) n r)) (o .one)
+    ∙ ap₂ (λ (k : ℕ) (x : Step). replied (recordedNumber (p .tests) (r .count) (capacity (r .tape)) 1) k r (recordStep r x)) (sym (o .result)) (sym (o .step))
+
+-- ---- calls that are lent no VRAM
+-- the same reply beside other VRAM
+abbrev pub beside : List ℕ → Reply → Reply
+beside vram o =
+    record {
+      number = o .number;
+      result = o .result;
+      recorder = recorder (o .recorder .chip .state) vram (o .recorder .tape) (o .recorder .count);
+    }
+
+kept : (s : State) (vram : List ℕ) (x : Store) → OffVram x → present (chip s []) x ≡ present (chip s vram) x
+kept s vram Nothing h = refl
+kept s vram (Vram place w) h = absurd h
+kept s vram (Cram i w) h = refl
+kept s vram (Vsram i w) h = refl
+kept s vram (Register i b) h = refl
+
+stays : (vram : List ℕ) (x : Store) → OffVram x → storedIn vram x ≡ vram
+stays vram Nothing h = refl
+stays vram (Vram place w) h = absurd h
+stays vram (Cram i w) h = refl
+stays vram (Vsram i w) h = refl
+stays vram (Register i b) h = refl
+
+-- a step that leaves VRAM alone is recorded alike beside any VRAM
+pub beside-vram : (vram : List ℕ) (s : State) (tape : List ℕ) (count : ℕ) (t : Step) (number result : ℕ) → OffVram (t .store) → beside vram (replied number result (recorder s [] tape count) (recordStep (recorder s [] tape count) t)) ≡ replied number result (recorder s vram tape count) (recordStep (recorder s vram tape count) t)
+unfolding recordStep perform undoing
+beside-vram vram s tape count t number result off = by-number (eqb number 0) refl
+  where
+    by-number : (b : Bool) → eqb number 0 ≡ b → beside vram (replied number result (recorder s [] tape count) (recordStep (recorder s [] tape count) t)) ≡ replied number result (recorder s vram tape count) (recordStep (recorder s vram tape count) t)
+    by-number true e = simp (e, kept s vram (t .store) off, stays vram (t .store) off)
+    by-number false e = simp e
 
 -- ---- loops
 pub record-turn : (step : Chip → Step) (n i : ℕ) (r : Recorder) → i < n → recordSteps step (n - i) r ≡ recordSteps step (n - (i + 1)) (recordStep r (step (r .chip)))
@@ -64,14 +95,6 @@ module _ (tape : List ℕ) (top left : ℕ) where
 
   pub good-turn : 0 < left → topGood tape top left ≡ (goodRecord (recordAt tape (top - 1)) && topGood tape (top - 1) (left - 1))
   good-turn h = ap (topGood tape top) (one-less h)
-
--- ---- refused and done
-module _ (result : ℕ) (before after : Recorder) where
-  pub replied-refused : (n m : ℕ) → n ≡ m → (n ≡ 0 → ⊥) → record { number = n; result = 0; recorder = before } ≡ replied m result before after
-  replied-refused n m e h = sym (simp (ne-eqb n 0 h)) ∙ ap (λ (k : ℕ). replied k result before after) e
-
-  pub replied-done : (n m : ℕ) → n ≡ m → n ≡ 0 → record { number = 0; result = result; recorder = after } ≡ replied m result before after
-  replied-done n m e z = sym (simp (sym e ∙ z))
 
 -- a step back that is not refused has its records on the tape
 pub back-accepted : (r : Recorder) (k : ℕ) → backNumber r k ≡ 0 → (k ≤ r .count) × (r .count ≤ capacity (r .tape))

@@ -1,5 +1,5 @@
 -- The book: document 01, The book for demand 3. It keeps a full copy of the chip for each step.
-use Prim.Native.Nat.{ℕ, zero, suc, _*_}
+use Prim.Native.Nat.{ℕ, zero, suc}
 use mathlib.Core.Bool.{cond}
 use mathlib.Core.List.{List, [], _∷_}
 use lib.Dec.{eqb}
@@ -9,21 +9,14 @@ use Rattle.vdp_state.specs.Answer.{first}
 use Rattle.vdp_state.specs.Cell.{perform}
 use Rattle.vdp_state.specs.State.{Chip, chip}
 use Rattle.vdp_tape.specs.Number.{recordedNumber}
-use Rattle.vdp_tape.specs.Recorded.{controlPlan, dataWritePlan, dataReadPlan, statusPlan, framePlan, runPlan}
+use Rattle.vdp_tape.specs.Recorded.{Call, planOf}
 use Rattle.vdp_tape.specs.Recorder.{Plan}
 use Rattle.vdp_tape.specs.StepBack.{backTests}
 
--- a recorded call or a step back, with its arguments; "Cartridge, work RAM [..] may be others at each call"
-pub data Call : Type 0 where
-  ControlWrite : ℕ → Call
-  ControlWriteByte : ℕ → Call
-  DataWrite : ℕ → Call
-  DataWriteByte : ℕ → Call
-  DataRead : Call
-  StatusRead : Call
-  NewFrame : Call
-  Run : List ℕ → List ℕ → ℕ → Call
-  StepBack : ℕ → Call
+-- what a caller does: a recorded call or a step back
+pub data Act : Type 0 where
+  Make : Call → Act
+  StepBack : ℕ → Act
 
 -- "It holds a present state, a present VRAM and a pile of pages; a page is a full copy of a state and 65,536 bytes", and
 -- "of the tape only its capacity"
@@ -68,13 +61,7 @@ enterBy p b = entry (recordedNumber (p .tests) (length (b .pages)) (b .capacity)
 abbrev pub enterBack : ℕ → Book → Entry
 enterBack k b = entry (first (backTests (b .present) (length (b .pages)) (b .capacity) k)) b (turnedBack k b)
 
-abbrev pub enter : Call → Book → Entry
-enter (ControlWrite w) b = enterBy (controlPlan w (b .present)) b
-enter (ControlWriteByte x) b = enterBy (controlPlan (257 * x) (b .present)) b
-enter (DataWrite w) b = enterBy (dataWritePlan w (b .present)) b
-enter (DataWriteByte x) b = enterBy (dataWritePlan (257 * x) (b .present)) b
-enter DataRead b = enterBy (dataReadPlan (b .present)) b
-enter StatusRead b = enterBy (statusPlan (b .present)) b
-enter NewFrame b = enterBy (framePlan (b .present)) b
-enter (Run cartridge ram budget) b = enterBy (runPlan cartridge ram budget (b .present)) b
+-- "It is fed each call with its arguments"
+abbrev pub enter : Act → Book → Entry
+enter (Make call) b = enterBy (planOf call (b .present)) b
 enter (StepBack k) b = enterBack k b

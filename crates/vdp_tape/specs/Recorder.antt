@@ -1,8 +1,8 @@
 -- What a caller of recorded calls holds from call to call, and a step recorded: document 01, The tape.
-use Prim.Native.Nat.{ℕ, zero, suc, _+_, _-_, _*_}
+use Prim.Native.Nat.{ℕ, zero, suc, _+_, _*_}
 use mathlib.Core.Bool.{cond}
 use mathlib.Core.List.{List}
-use lib.Dec.{eqb, ltb}
+use lib.Dec.{eqb}
 use lib.Seq.{sets}
 use Rattle.vdp_state.specs.declared.state.State.{State}
 use Rattle.vdp_state.specs.declared.state.Step.{Step}
@@ -10,7 +10,7 @@ use Rattle.vdp_state.specs.Answer.{Test}
 use Rattle.vdp_state.specs.Cell.{perform, undoing}
 use Rattle.vdp_state.specs.State.{Chip, chip}
 use Rattle.vdp_tape.specs.declared.recorder.Recorded.{Recorded}
-use Rattle.vdp_tape.specs.Number.{capacity, recordedNumber, withTape}
+use Rattle.vdp_tape.specs.Number.{capacity, recordedNumber}
 use Rattle.vdp_tape.specs.Record.{recordOf}
 
 -- a chip, a tape, and how many records stand on it
@@ -62,17 +62,3 @@ replied n result before after =
 abbrev pub recordedBy : Plan → Recorder → Reply
 recordedBy p r =
     replied (recordedNumber (p .tests) (r .count) (capacity (r .tape)) (p .steps)) (p .result) r (recordSteps (p .step) (p .steps) r)
-
--- a recorded call of one step, from the plain form's number
-abbrev pub oneStep : ℕ → ℕ → Recorder → Step → Reply
-oneStep plain result r t =
-    replied (withTape plain (ltb (capacity (r .tape)) (r .count)) (ltb (capacity (r .tape) - r .count) 1)) result r (recordStep r t)
-
--- the same reply beside other VRAM: what a call that is lent no VRAM comes to for a caller that holds some
-abbrev pub beside : List ℕ → Reply → Reply
-beside vram o =
-    record {
-      number = o .number;
-      result = o .result;
-      recorder = recorder (o .recorder .chip .state) vram (o .recorder .tape) (o .recorder .count);
-    }
