@@ -12,9 +12,11 @@ use Rattle.vdp_state.specs.declared.state.State.{State}
 use Rattle.vdp_state.specs.declared.state.Step.{Step}
 use Rattle.vdp_state.specs.Cell.{perform}
 use Rattle.vdp_state.specs.Good.{good, goodSource, goodDma, goodControl, all, isColour, isScroll, mostUnits}
+use Rattle.vdp_state.specs.Iterate.{made, steps}
 use Rattle.vdp_state.specs.State.{Chip, chip}
+use Rattle.vdp_state.proofs.Iterate.{iterate-related}
 use Rattle.vdp_state.proofs.Laws.{both-left, both-right, good-control}
-use Rattle.vdp_dma.specs.Run.{steps, ran, unitsMade, badMemory, notLent, runNumber}
+use Rattle.vdp_dma.specs.Run.{ran, unitsMade, badMemory, notLent, runNumber}
 use Rattle.vdp_dma.specs.Source.{workRam, nextSource, isLent, allLent}
 use Rattle.vdp_dma.specs.Transfer.{atHand, Ready}
 use Rattle.vdp_dma.specs.Unit.{unitDma, fillStep, copyStep, unit}
@@ -168,16 +170,17 @@ dma c = c .state .control .dma
 
 pub kind-steps : (cartridge ram : List ℕ) (kind : ℕ) (step : Chip → Step) (source : Chip → ℕ) → ((c : Chip) → dma c .kind ≡ kind → unit cartridge ram c ≡ step c) → ((c : Chip) → step c .control .dma ≡ unitDma (dma c) (source c)) → (n : ℕ) (c : Chip) → dma c .kind ≡ kind → n ≤ dma c .remaining → ran cartridge ram n c ≡ steps step n c
 unfolding perform
-kind-steps cartridge ram kind step source same shape zero c k h = refl
-kind-steps cartridge ram kind step source same shape (suc zero) c k h = ap (perform c) (same c k)
-kind-steps cartridge ram kind step source same shape (suc (suc n)) c k h =
-    let c′ : Chip = perform c (step c) in
-    let many : leb (dma c .remaining) 1 ≡ false = lt-leb (dma c .remaining) 1 (omega arith) in
-    let d : dma c′ ≡ record { kind = dma c .kind; remaining = dma c .remaining - 1; source = source c; fill = dma c .fill } = shape c ∙ simp many in
-    let kept : dma c′ .kind ≡ kind = ap (λ (x : Dma). x .kind) d ∙ k in
-    let left : dma c′ .remaining ≡ dma c .remaining - 1 = ap (λ (x : Dma). x .remaining) d in
-    ap (λ (x : Chip). ran cartridge ram (suc n) x) (ap (perform c) (same c k))
-    ∙ kind-steps cartridge ram kind step source same shape (suc n) c′ kept (omega arith)
+kind-steps cartridge ram kind step source same shape n c k h =
+    let Left : ℕ → Chip → Chip → Type 0 = λ j x y. (x ≡ y) × (0 < j → (dma y .kind ≡ kind) × (j ≤ dma y .remaining)) in
+    let next : (j : ℕ) (x y : Chip) → Left (suc j) x y → Left j (made (unit cartridge ram) x) (made step y) = λ j x y r.
+    let q = r .1 (omega arith) in (
+      ap (made (unit cartridge ram)) (r .0) ∙ ap (perform y) (same y (q .0)),
+      λ more.
+          let many : leb (dma y .remaining) 1 ≡ false = lt-leb (dma y .remaining) 1 (omega (arith, q .1)) in
+          let d : step y .control .dma ≡ record { kind = dma y .kind; remaining = dma y .remaining - 1; source = source y; fill = dma y .fill } = shape y ∙ simp many in
+          (ap (λ (x : Dma). x .kind) d ∙ q .0, omega (arith, q .1, ap (λ (x : Dma). x .remaining) d)),
+    ) in
+    iterate-related (made (unit cartridge ram)) (made step) Left next n c c (refl, λ more. (k, h)) .0
 
 -- a run's units in kind 3, and in kind 4
 module _ (cartridge ram : List ℕ) (n : ℕ) (c : Chip) (h : n ≤ dma c .remaining) where

@@ -19,7 +19,7 @@ use Rattle.vdp_ports.specs.declared.access.Access.the-variants.{Write, Read, No
 use Rattle.vdp_ports.specs.declared.access.Memory.the-variants.{Vram, Cram, Vsram}
 use Rattle.vdp_ports.specs.Access.{access, wordNumber, written}
 use Rattle.vdp_ports.specs.Length.{register, idle}
-use Rattle.vdp_dma.specs.Run.{steps, ran}
+use Rattle.vdp_dma.specs.Run.{ran}
 use Rattle.vdp_dma.specs.Source.{workRam, wordFrom, wordsNext, nextSource}
 use Rattle.vdp_dma.specs.Transfer.{moved, holding, coloursIn, scrollsIn, atHand, Ready}
 use Rattle.vdp_dma.specs.Unit.{unitDma, unitControl, transferStep, unit}

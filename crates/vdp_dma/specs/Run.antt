@@ -1,22 +1,16 @@
 -- A run: document 01, DMA ("A run takes a budget and reports the units made").
-use Prim.Native.Nat.{ℕ, zero, suc, _%_, min}
+use Prim.Native.Nat.{ℕ, _%_, min}
 use mathlib.Core.Bool.{Bool, cond, not, _||_, _&&_}
 use mathlib.Core.List.{List, [], _∷_}
 use lib.Dec.{eqb, leb}
 use lib.ListN.{length}
 use Rattle.vdp_state.specs.declared.state.State.{State}
-use Rattle.vdp_state.specs.declared.state.Step.{Step}
 use Rattle.vdp_state.specs.Answer.{Test, gives, first, refused, done, Outcome, outcome}
-use Rattle.vdp_state.specs.Cell.{perform}
+use Rattle.vdp_state.specs.Iterate.{steps}
 use Rattle.vdp_state.specs.State.{Chip}
 use Rattle.vdp_ports.specs.Refusal.{badState}
 use Rattle.vdp_dma.specs.Source.{allLent}
 use Rattle.vdp_dma.specs.Unit.{unit}
-
--- n steps one after the other, each decided by the chip as the last one left it
-abbrev pub steps : (Chip → Step) → ℕ → Chip → Chip
-steps step zero c = c
-steps step (suc n) c = steps step n (perform c (step c))
 
 -- "the units made, the smaller of budget and remaining"
 abbrev pub unitsMade : State → ℕ → ℕ

@@ -15,12 +15,13 @@ use Rattle.vdp_state.specs.Answer.{Test, first}
 use Rattle.vdp_state.specs.Cell.{perform, undoing}
 use Rattle.vdp_state.specs.Range.{GoodChip, GoodStep}
 use Rattle.vdp_state.specs.State.{Chip, chip}
+use Rattle.vdp_state.proofs.Iterate.{iterate-related}
 use Rattle.vdp_state.proofs.Laws.{undone, performed-good, undoing-good, both}
-use Rattle.vdp_tape.specs.Book.{Book, turned, turnedBack, Entry, entry, enterBy, enterBack}
+use Rattle.vdp_tape.specs.Book.{Book, turnPage, turned, turnedBack, Entry, entry, enterBy, enterBack}
 use Rattle.vdp_tape.specs.Demand.{seen, seenInBook}
 use Rattle.vdp_tape.specs.Number.{capacity, recordedNumber}
 use Rattle.vdp_tape.specs.Record.{recordOf, stepOf, goodRecord, recordAt}
-use Rattle.vdp_tape.specs.Recorder.{Recorder, recorder, recordStep, recordSteps, Plan, Reply, replied, recordedBy}
+use Rattle.vdp_tape.specs.Recorder.{Recorder, recorder, recordStep, recordNext, recordSteps, Plan, Reply, replied, recordedBy}
 use Rattle.vdp_tape.specs.StepBack.{topGood, undo, backTests, backNumber, stepBack}
 use Rattle.vdp_tape.proofs.Numbers.{accepted, recorded-number}
 use Rattle.vdp_tape.proofs.Records.{read-back, record-good}
@@ -108,18 +109,21 @@ count-after : (r : Recorder) (t : Step) → recordStep r t .count ≡ r .count +
 unfolding recordStep
 count-after r t = refl
 
-chip-after : (r : Recorder) (t : Step) → recordStep r t .chip ≡ perform (r .chip) t
+pub chip-after : (r : Recorder) (t : Step) → recordStep r t .chip ≡ perform (r .chip) t
 unfolding recordStep
 chip-after r t = refl
 
 steps-alike : (step : Chip → Step) (n : ℕ) (r : Recorder) (b : Book) → Alike r b → StepsGood step n (r .chip) → r .count + n ≤ capacity (r .tape) → Alike (recordSteps step n r) (turned step n b)
-steps-alike step zero r b a g h = a
-steps-alike step (suc n) r b a g h =
-    let t = step (r .chip) in
-    let next : Alike (recordStep r t) (record { present = perform (b .present) (step (b .present)); pages = b .present ∷ b .pages; capacity = b .capacity }) =
-    subst (λ (c : Chip). Alike (recordStep r t) (record { present = perform (b .present) (step c); pages = b .present ∷ b .pages; capacity = b .capacity })) (a .present)
-    (step-alike r b a t (g .0) (omega arith)) in
-    steps-alike step n (recordStep r t) _ next (subst (StepsGood step n) (sym (chip-after r t)) (g .1)) (omega (arith, room-after r t, count-after r t))
+steps-alike step n r b a g h =
+    let Left : ℕ → Recorder → Book → Type 0 = λ k x y. Alike x y × StepsGood step k (x .chip) × (x .count + k ≤ capacity (x .tape)) in
+    let next : (k : ℕ) (x : Recorder) (y : Book) → Left (suc k) x y → Left k (recordNext step x) (turnPage step y) = λ k x y l.
+    let t = step (x .chip) in (
+      subst (λ (c : Chip). Alike (recordStep x t) (record { present = perform (y .present) (step c); pages = y .present ∷ y .pages; capacity = y .capacity })) (l .0 .present)
+          (step-alike x y (l .0) t (l .1 .0) (omega (arith, l .2))),
+      subst (StepsGood step k) (sym (chip-after x t)) (l .1 .1),
+      omega (arith, l .2, room-after x t, count-after x t),
+    ) in
+    iterate-related (recordNext step) (turnPage step) Left next n r b (a, g, h) .0
 
 -- what a call shows, and the two sides after it
 pub record Together (o : Reply) (e : Entry) : Type 0 where

@@ -1,6 +1,7 @@
 pub mod Decided
 pub mod Demand
 pub mod Numbers
+pub mod Plain
 pub mod Records
 pub mod Same
 pub mod Sequence

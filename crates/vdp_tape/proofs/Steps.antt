@@ -56,7 +56,7 @@ kept s vram (Cram i w) h = refl
 kept s vram (Vsram i w) h = refl
 kept s vram (Register i b) h = refl
 
-stays : (vram : List ℕ) (x : Store) → OffVram x → storedIn vram x ≡ vram
+pub stays : (vram : List ℕ) (x : Store) → OffVram x → storedIn vram x ≡ vram
 stays vram Nothing h = refl
 stays vram (Vram place w) h = absurd h
 stays vram (Cram i w) h = refl
@@ -72,16 +72,7 @@ beside-vram vram s tape count t number result off = by-number (eqb number 0) ref
     by-number true e = simp (e, kept s vram (t .store) off, stays vram (t .store) off)
     by-number false e = simp e
 
--- ---- loops
-pub record-turn : (step : Chip → Step) (n i : ℕ) (r : Recorder) → i < n → recordSteps step (n - i) r ≡ recordSteps step (n - (i + 1)) (recordStep r (step (r .chip)))
-record-turn step n i r h = ap (λ (k : ℕ). recordSteps step k r) (let e : n - i ≡ suc (n - (i + 1)) = omega arith in e)
-
-pub record-end : (step : Chip → Step) (n i : ℕ) (r : Recorder) → n ≤ i → recordSteps step (n - i) r ≡ r
-record-end step n i r h = ap (λ (k : ℕ). recordSteps step k r) (let e : n - i ≡ 0 = omega arith in e)
-
-pub record-start : (step : Chip → Step) (n : ℕ) (r : Recorder) → recordSteps step (n - 0) r ≡ recordSteps step n r
-record-start step n r = ap (λ (k : ℕ). recordSteps step k r) (let e : n - 0 ≡ n = omega arith in e)
-
+-- ---- loops over the records of a tape
 module _ (tape : List ℕ) (top left : ℕ) where
   -- the part of a tape that a record is
   pub record-part : take (32 * (top - 1) + 32 - 32 * (top - 1)) (drop (32 * (top - 1)) tape) ≡ recordAt tape (top - 1)

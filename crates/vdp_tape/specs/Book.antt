@@ -7,7 +7,8 @@ use lib.ListN.{length, getD, drop}
 use Rattle.vdp_state.specs.declared.state.Step.{Step}
 use Rattle.vdp_state.specs.Answer.{first}
 use Rattle.vdp_state.specs.Cell.{perform}
-use Rattle.vdp_state.specs.State.{Chip, chip}
+use Rattle.vdp_state.specs.Iterate.{iterate}
+use Rattle.vdp_state.specs.State.{Chip}
 use Rattle.vdp_tape.specs.Number.{recordedNumber}
 use Rattle.vdp_tape.specs.Recorded.{Call, planOf}
 use Rattle.vdp_tape.specs.Recorder.{Plan}
@@ -30,11 +31,12 @@ abbrev pub newBook : Chip → ℕ → Book
 newBook c capacity = record { present = c; pages = []; capacity = capacity }
 
 -- "put a page of the present ones on top, then make them what the definition of the unit gives", n times
+abbrev pub turnPage : (Chip → Step) → Book → Book
+turnPage step b =
+    record { present = perform (b .present) (step (b .present)); pages = b .present ∷ b .pages; capacity = b .capacity }
+
 abbrev pub turned : (Chip → Step) → ℕ → Book → Book
-turned step zero b = b
-turned step (suc n) b =
-    turned step n
-    (record { present = perform (b .present) (step (b .present)); pages = b .present ∷ b .pages; capacity = b .capacity })
+turned step n b = iterate (turnPage step) n b
 
 -- "An accepted step back of k makes the k-th page from the top the present and drops it and those above; of 0 it
 -- changes nothing."

@@ -1,5 +1,5 @@
 -- What a caller of recorded calls holds from call to call, and a step recorded: document 01, The tape.
-use Prim.Native.Nat.{ℕ, zero, suc, _+_, _*_}
+use Prim.Native.Nat.{ℕ, _+_, _*_}
 use mathlib.Core.Bool.{cond}
 use mathlib.Core.List.{List}
 use lib.Dec.{eqb}
@@ -8,6 +8,7 @@ use Rattle.vdp_state.specs.declared.state.State.{State}
 use Rattle.vdp_state.specs.declared.state.Step.{Step}
 use Rattle.vdp_state.specs.Answer.{Test}
 use Rattle.vdp_state.specs.Cell.{perform, undoing}
+use Rattle.vdp_state.specs.Iterate.{iterate}
 use Rattle.vdp_state.specs.State.{Chip, chip}
 use Rattle.vdp_tape.specs.declared.recorder.Recorded.{Recorded}
 use Rattle.vdp_tape.specs.Number.{capacity, recordedNumber}
@@ -32,9 +33,11 @@ recordStep r t =
     }
 
 -- n steps recorded one after the other, each decided by the chip as the last one left it
+abbrev pub recordNext : (Chip → Step) → Recorder → Recorder
+recordNext step r = recordStep r (step (r .chip))
+
 abbrev pub recordSteps : (Chip → Step) → ℕ → Recorder → Recorder
-recordSteps step zero r = r
-recordSteps step (suc n) r = recordSteps step n (recordStep r (step (r .chip)))
+recordSteps step n r = iterate (recordNext step) n r
 
 -- what a recorded call is: the tests of its plain form, its result, and its steps
 pub record Plan : Type 0 where

@@ -4,9 +4,10 @@ use borrow.Author.Needs.{needs}
 use mathlib.Core.Path.{_≡_, sym, ap, subst, _∙_}
 use native.Mathlib.Omega.{arith}
 use Rattle.vdp_dma.proofs.Accepted.{Accepted, Sizes, accepted, sizes, accepted-ready, fill-ran, copy-ran, none-remaining, some-remaining}
-use Rattle.vdp_dma.specs.Run.{ran, steps, unitsMade}
+use Rattle.vdp_dma.specs.Run.{ran, unitsMade}
 use Rattle.vdp_dma.specs.Transfer.{Ready}
 use Rattle.vdp_dma.specs.Unit.{fillStep, copyStep}
+use Rattle.vdp_state.specs.Iterate.{steps}
 use Rattle.vdp_state.specs.State.{chip}
 use Rattle.vdp_dma.proofs.run.accepted.Statement.{statement}
 use Rattle.vdp_dma.proofs.run.accepted.Tie as tie
