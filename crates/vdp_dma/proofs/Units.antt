@@ -15,9 +15,10 @@ use Rattle.vdp_state.specs.declared.state.State.{State}
 use Rattle.vdp_state.specs.declared.state.Step.{Step}
 use Rattle.vdp_state.specs.declared.state.Store.the-variants.{Nothing, Vram}
 use Rattle.vdp_state.specs.Cell.{putWord, storedIn, perform}
-use Rattle.vdp_state.specs.Range.{Bytes}
+use Rattle.vdp_state.specs.Range.{AllBytes}
 use Rattle.vdp_state.specs.Iterate.{made, steps}
 use Rattle.vdp_state.specs.State.{Chip, chip, withControl, withPort, withDma}
+use Rattle.vdp_state.proofs.Bools.{by-cases}
 use Rattle.vdp_state.proofs.Iterate.{iterate-start, iterate-turn, iterate-end}
 use Rattle.vdp_ports.specs.Access.{access, evenPlace}
 use Rattle.vdp_ports.specs.Data.{advanced}
@@ -25,7 +26,7 @@ use Rattle.vdp_ports.specs.Length.{register}
 use Rattle.vdp_dma.specs.Unit.{unitDma, unitsDma, unitControl, unitsControl, byteStored, writesVram, inverted, fillStep, copyStep}
 
 -- a store of the even word with one byte replaced is a store of that byte
-module _ (m : List ℕ) (place b : ℕ) (bytes : Bytes m) (small : b < 256) where
+module _ (m : List ℕ) (place b : ℕ) (bytes : AllBytes m) (small : b < 256) where
   stored-even : place % 2 ≡ 0 → putWord m (evenPlace place) (b * 256 + getD m (place + 1) 0) ≡ set m place b
   stored-even e =
       let p : evenPlace place ≡ place = omega arith in
@@ -42,11 +43,8 @@ module _ (m : List ℕ) (place b : ℕ) (bytes : Bytes m) (small : b < 256) wher
       rw (p, high, low, q, set-getD) refl
 
   pub byte-stored : storedIn m (byteStored m place b) ≡ set m place b
-  byte-stored = by-half (eqb (place % 2) 0) refl
-    where
-      by-half : (t : Bool) → eqb (place % 2) 0 ≡ t → storedIn m (byteStored m place b) ≡ set m place b
-      by-half true e = simp e (stored-even (eqb-true (place % 2) 0 e))
-      by-half false e = simp e (stored-odd (eqb-false (place % 2) 0 e))
+  byte-stored =
+      by-cases (eqb (place % 2) 0) (λ e. simp e (stored-even (eqb-true (place % 2) 0 e))) (λ e. simp e (stored-odd (eqb-false (place % 2) 0 e)))
 
 -- ---- n units at once
 module _ (d : Dma) (i : ℕ) (live : i < d .remaining) where
@@ -61,16 +59,15 @@ module _ (d : Dma) (i : ℕ) (live : i < d .remaining) where
 
   -- one unit after i of them
   pub units-next : (source source′ : ℕ) → unitsDma d (i + 1) source′ ≡ unitDma (unitsDma d i source) source′
-  units-next source source′ = by-last (leb (d .remaining) (i + 1)) refl
-    where
-      by-last : (t : Bool) → leb (d .remaining) (i + 1) ≡ t → unitsDma d (i + 1) source′ ≡ unitDma (unitsDma d i source) source′
-      by-last true e =
-          let h : d .remaining ≤ i + 1 = leb-true (d .remaining) (i + 1) e in
-          simp (more, e, le-leb (d .remaining - i) 1 (omega arith))
-      by-last false e =
-          let h : i + 1 < d .remaining = leb-false (d .remaining) (i + 1) e in
-          let same : d .remaining - (i + 1) ≡ d .remaining - i - 1 = omega arith in
-          simp (more, e, lt-leb (d .remaining - i) 1 (omega arith), same)
+  units-next source source′ =
+      by-cases (leb (d .remaining) (i + 1))
+      (λ e.
+      let h : d .remaining ≤ i + 1 = leb-true (d .remaining) (i + 1) e in
+      simp (more, e, le-leb (d .remaining - i) 1 (omega arith)))
+      (λ e.
+      let h : i + 1 < d .remaining = leb-false (d .remaining) (i + 1) e in
+      let same : d .remaining - (i + 1) ≡ d .remaining - i - 1 = omega arith in
+      simp (more, e, lt-leb (d .remaining - i) 1 (omega arith), same))
 
 pub units-none : (k : Control) → 0 < k .dma .remaining → unitsControl k (k .port) 0 (k .dma .source) ≡ k
 units-none k h =
@@ -123,11 +120,7 @@ copyPut p source fill m = storedIn m (byteStored m (p .address) (getD m source 0
 
 pub fill-kind : Kind fillStep (λ x. x) fillPut
 unfolding perform
-fill-kind s k m = by-code (writesVram (access (k .port .code))) refl
-  where
-    by-code : (t : Bool) → writesVram (access (k .port .code)) ≡ t → perform (chip (withControl s k) m) (fillStep (chip (withControl s k) m)) ≡ chip (withControl s (unitControl k (register s 15) (k .dma .source))) (fillPut (k .port) (k .dma .source) (k .dma .fill) m)
-    by-code true e = simp e
-    by-code false e = simp e
+fill-kind s k m = by-cases (writesVram (access (k .port .code))) (λ e. simp e) (λ e. simp e)
 
 pub copy-kind : Kind copyStep (λ x. (x + 1) % 65536) copyPut
 unfolding perform

@@ -5,4 +5,5 @@ pub mod Fresh
 pub mod Good
 pub mod Iterate
 pub mod Range
+pub mod Same
 pub mod State

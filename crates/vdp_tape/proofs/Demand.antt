@@ -2,7 +2,7 @@
 -- other from the present, give the pages.
 use Prim.Native.Nat.{ℕ, zero, suc, _+_, _-_, _*_, _/_, _<_, _≤_}
 use mathlib.Core.Path.{_≡_, refl, sym, ap, ap₂, subst, _∙_}
-use mathlib.Core.Bool.{Bool, true, false, cond, not, _&&_, _||_}
+use mathlib.Core.Bool.{Bool, true, false}
 use mathlib.Core.List.{List, [], _∷_}
 use native.Mathlib.Omega.{arith}
 use borrow.Author.Tests.{eqb-true, ltb-true, ltb-false, lt-ltb, le-ltb}
@@ -15,8 +15,9 @@ use Rattle.vdp_state.specs.Answer.{Test, first}
 use Rattle.vdp_state.specs.Cell.{perform, undoing}
 use Rattle.vdp_state.specs.Range.{GoodChip, GoodStep}
 use Rattle.vdp_state.specs.State.{Chip, chip}
+use Rattle.vdp_state.proofs.Bools.{by-cases, both}
 use Rattle.vdp_state.proofs.Iterate.{iterate-related}
-use Rattle.vdp_state.proofs.Laws.{undone, performed-good, undoing-good, both}
+use Rattle.vdp_state.proofs.Laws.{StepsGood, undone, performed-good, undoing-good}
 use Rattle.vdp_tape.specs.Book.{Book, turnPage, turned, turnedBack, Entry, entry, enterBy, enterBack}
 use Rattle.vdp_tape.specs.Demand.{seen, seenInBook}
 use Rattle.vdp_tape.specs.Number.{capacity, recordedNumber}
@@ -96,11 +97,6 @@ module _ (r : Recorder) (b : Book) (a : Alike r b) (t : Step) (g : GoodStep t) (
       }
 
 -- ---- a call's steps
--- each of n steps is in range where it is made
-abbrev pub StepsGood : (Chip → Step) → ℕ → Chip → Type 0
-StepsGood step zero c = Unit {0}
-StepsGood step (suc n) c = GoodStep (step c) × StepsGood step n (perform c (step c))
-
 room-after : (r : Recorder) (t : Step) → capacity (recordStep r t .tape) ≡ capacity (r .tape)
 unfolding recordStep
 room-after r t = ap (λ (n : ℕ). n / 32) (length-sets (r .tape) (32 * r .count) (recordOf (undoing (r .chip) t)))
@@ -136,11 +132,9 @@ alike-seen n result r b a =
 
 -- a call that is refused, or done, on both sides alike
 together : (n result : ℕ) (r r′ : Recorder) (b b′ : Book) → Alike r b → (n ≡ 0 → Alike r′ b′) → Together (replied n result r r′) (entry n b b′)
-together n result r r′ b b′ a done = by-number (eqb n 0) refl
-  where
-    by-number : (t : Bool) → eqb n 0 ≡ t → Together (replied n result r r′) (entry n b b′)
-    by-number true e = let d = done (eqb-true n 0 e) in rw e (record { shown = alike-seen 0 result r′ b′ d; after = d })
-    by-number false e = rw e (record { shown = alike-seen n 0 r b a; after = a })
+together n result r r′ b b′ a done =
+    by-cases (eqb n 0) (λ e. let d = done (eqb-true n 0 e) in rw e (record { shown = alike-seen 0 result r′ b′ d; after = d }))
+    (λ e. rw e (record { shown = alike-seen n 0 r b a; after = a }))
 
 -- a recorded call whose steps are in range where its plain form is accepted
 pub plan-together : (p : Plan) (r : Recorder) (b : Book) → Alike r b → (first (p .tests) ≡ 0 → StepsGood (p .step) (p .steps) (r .chip)) → Together (recordedBy p r) (enterBy p b)
@@ -197,13 +191,11 @@ turned-back (suc k) b = refl
 
 -- 8 is never given: beyond the count 10 comes first, and the records on the tape are good
 number-back : (r : Recorder) (b : Book) (k : ℕ) → Alike r b → backNumber r k ≡ first (backTests (r .chip) (r .count) (capacity (r .tape)) k)
-number-back r b k a = by-count (ltb (r .count) k) refl
-  where
-    by-count : (t : Bool) → ltb (r .count) k ≡ t → backNumber r k ≡ first (backTests (r .chip) (r .count) (capacity (r .tape)) k)
-    by-count true e = simp e
-    by-count false e =
-        let q = back (r .tape) (r .count) k (r .chip) (b .pages) (a .count) (let h : k ≤ r .count = ltb-false (r .count) k e in omega (arith, a .count)) (a .good) (a .trail) in
-        simp (q .records)
+number-back r b k a =
+    by-cases (ltb (r .count) k) (λ e. simp e)
+    (λ e.
+    let q = back (r .tape) (r .count) k (r .chip) (b .pages) (a .count) (let h : k ≤ r .count = ltb-false (r .count) k e in omega (arith, a .count)) (a .good) (a .trail) in
+    simp (q .records))
 
 pub back-together : (k : ℕ) (r : Recorder) (b : Book) → Alike r b → Together (stepBack r k) (enterBack k b)
 back-together k r b a =

@@ -1,9 +1,8 @@
-pub mod Decided
 pub mod Demand
 pub mod Numbers
 pub mod Plain
 pub mod Records
-pub mod Same
 pub mod Sequence
 pub mod Steps
+pub mod Stored
 pub mod Tape

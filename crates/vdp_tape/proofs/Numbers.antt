@@ -9,7 +9,7 @@ use lib.Dec.{eqb, ltb}
 use lib.ListN.{length, take, drop}
 use Rattle.vdp_state.specs.Answer.{Test, gives, holdsAt, firstOf, order, first}
 use Rattle.vdp_state.specs.Good.{all}
-use Rattle.vdp_state.proofs.Laws.{both-left, both-right}
+use Rattle.vdp_state.proofs.Bools.{both-left, both-right}
 use Rattle.vdp_tape.specs.Number.{recordedNumber}
 use Rattle.vdp_tape.specs.OneStep.{Numbered}
 

@@ -1,7 +1,6 @@
 -- The claim `RecordedAsPlain` of specs/Plain.antt, proved over plans.
 use Prim.Native.Nat.{ℕ}
 use mathlib.Core.Path.{_≡_, refl, sym, ap, _∙_}
-use mathlib.Core.Bool.{Bool, true, false}
 use borrow.Author.Tests.{eqb-true}
 use lib.Dec.{eqb}
 use Rattle.vdp_state.specs.declared.state.Step.{Step}
@@ -9,6 +8,7 @@ use Rattle.vdp_state.specs.Answer.{first, done, answered, Outcome, outcome, ser
 use Rattle.vdp_state.specs.Cell.{perform}
 use Rattle.vdp_state.specs.Iterate.{made, steps}
 use Rattle.vdp_state.specs.State.{Chip}
+use Rattle.vdp_state.proofs.Bools.{by-cases}
 use Rattle.vdp_state.proofs.Iterate.{iterate-mapped}
 use Rattle.vdp_ports.specs.Control.{controlNumber, controlStep}
 use Rattle.vdp_ports.specs.Data.{dataNumber, dataWord, dataWriteStep, dataReadStep}
@@ -20,10 +20,9 @@ use Rattle.vdp_tape.specs.OneStep.{OffVram}
 use Rattle.vdp_tape.specs.Plain.{plainOf, withoutTape, RecordedAsPlain}
 use Rattle.vdp_tape.specs.Recorded.{Call, ControlWrite, DataWrite, DataRead, StatusRead, NewFrame, Run, planOf}
 use Rattle.vdp_tape.specs.Recorder.{Recorder, recordNext, recordSteps, Plan, replied, recordedBy}
-use Rattle.vdp_tape.proofs.Decided.{control-off}
 use Rattle.vdp_tape.proofs.Demand.{chip-after}
 use Rattle.vdp_tape.proofs.Numbers.{recorded-number, accepted}
-use Rattle.vdp_tape.proofs.Steps.{stays}
+use Rattle.vdp_tape.proofs.Steps.{stays, control-off}
 
 -- what a plan's plain form leaves: its steps, and no records
 abbrev plainBy : Plan → Chip → Outcome
@@ -33,11 +32,7 @@ recorded-steps : (step : Chip → Step) (n : ℕ) (r : Recorder) → recordSteps
 recorded-steps step n r = iterate-mapped (recordNext step) (made step) (λ (x : Recorder). x .chip) (λ x. chip-after x (step (x .chip))) n r
 
 replied-zero : (n result : ℕ) (before after : Recorder) → replied n result before after .number ≡ 0 → n ≡ 0
-replied-zero n result before after = by-number (eqb n 0) refl
-  where
-    by-number : (t : Bool) → eqb n 0 ≡ t → replied n result before after .number ≡ 0 → n ≡ 0
-    by-number true e z = eqb-true n 0 e
-    by-number false e z = simp e at z
+replied-zero n result before after z = by-cases (eqb n 0) (λ e. eqb-true n 0 e) (λ e. simp e at z)
 
 pub plan-as-plain : (p : Plan) (r : Recorder) → recordedBy p r .number ≡ 0 → withoutTape (recordedBy p r) ≡ plainBy p (r .chip)
 plan-as-plain p r e =
@@ -53,19 +48,11 @@ plan-as-plain p r e =
 module _ (c : Chip) (n w : ℕ) (t : Step) where
   one-served : ranOutcome n w c (perform c t) ≡ served n c t w
   unfolding perform
-  one-served = by-number (eqb n 0) refl
-    where
-      by-number : (b : Bool) → eqb n 0 ≡ b → ranOutcome n w c (perform c t) ≡ served n c t w
-      by-number true e = simp e
-      by-number false e = simp e
+  one-served = by-cases (eqb n 0) (λ e. simp e) (λ e. simp e)
 
   one-answered : OffVram (t .store) → ranOutcome n w c (perform c t) ≡ outcome (answered n (c .state) t w) (c .vram)
   unfolding perform
-  one-answered off = by-number (eqb n 0) refl
-    where
-      by-number : (b : Bool) → eqb n 0 ≡ b → ranOutcome n w c (perform c t) ≡ outcome (answered n (c .state) t w) (c .vram)
-      by-number true e = simp (e, stays (c .vram) (t .store) off)
-      by-number false e = simp e
+  one-answered off = by-cases (eqb n 0) (λ e. simp (e, stays (c .vram) (t .store) off)) (λ e. simp e)
 
 plain-is : (call : Call) (c : Chip) → plainBy (planOf call c) c ≡ plainOf call c
 unfolding dataReadStep

@@ -2,69 +2,22 @@
 -- a good record are what writing it gives.
 use Prim.Native.Nat.{ℕ, _+_, _*_, _/_, _%_, _<_, _≤_}
 use mathlib.Core.Path.{_≡_, refl, sym, ap, ap₂, subst, _∙_}
-use mathlib.Core.Bool.{Bool, true, false, cond, _&&_, _||_, Bool·beq, true≢false}
+use mathlib.Core.Bool.{Bool, true, false}
 use mathlib.Core.List.{List}
 use native.Mathlib.Omega.{arith}
-use borrow.Author.Tests.{ltb-true, leb-true, eqb-true}
+use borrow.Author.Tests.{ltb-true}
 use lib.Dec.{eqb, leb, ltb}
 use Rattle.vdp_state.specs.declared.state.Control.{Control}
-use Rattle.vdp_state.specs.declared.state.Dma.{Dma}
 use Rattle.vdp_state.specs.declared.state.Step.{Step}
 use Rattle.vdp_state.specs.declared.state.Store.{Store}
 use Rattle.vdp_state.specs.declared.state.Store.the-variants.{Nothing, Vram, Cram, Vsram, Register}
-use Rattle.vdp_state.specs.Good.{isColour, isScroll, goodSource, goodDma, goodControl, mostUnits}
+use Rattle.vdp_state.specs.Good.{isColour, isScroll, goodDma, goodControl}
 use Rattle.vdp_state.specs.Range.{GoodControl, goodStore, GoodStep}
-use Rattle.vdp_state.proofs.Laws.{both-left, both-right, both}
-use Rattle.vdp_tape.specs.Record.{bit, cellOf, storeOf, cell, recordOf, stepOf, same, goodRecord}
-use Rattle.vdp_tape.proofs.Same.{same-equal, same-self}
-
--- ---- the parts of GOOD of a DMA state
-pub record DmaFacts (d : Dma) : Type 0 where
-  pub kind : d .kind ≤ 4
-  pub most : d .remaining ≤ 65535
-  pub zero-exactly : Bool·beq (eqb (d .remaining) 0) (leb (d .kind) 1) ≡ true
-  pub source : goodSource (d .kind) (d .source) ≡ true
-  pub fill : (eqb (d .fill) 0 || eqb (d .kind) 3) ≡ true
-
-pub dma-facts : (d : Dma) → goodDma d ≡ true → DmaFacts d
-dma-facts d e =
-    let limits : Bool = leb (d .kind) 4 && leb (d .remaining) mostUnits in
-    let exactly : Bool = Bool·beq (eqb (d .remaining) 0) (leb (d .kind) 1) in
-    let source : Bool = goodSource (d .kind) (d .source) in
-    let fill : Bool = eqb (d .fill) 0 || eqb (d .kind) 3 in
-    let a = both-left (limits && exactly && source) fill e in
-    let b = both-left (limits && exactly) source a in
-    let c = both-left limits exactly b in
-    record {
-      kind = leb-true (d .kind) 4 (both-left (leb (d .kind) 4) (leb (d .remaining) mostUnits) c);
-      most = leb-true (d .remaining) mostUnits (both-right (leb (d .kind) 4) (leb (d .remaining) mostUnits) c);
-      zero-exactly = both-right limits exactly b;
-      source = both-right (limits && exactly) source a;
-      fill = both-right (limits && exactly && source) fill e;
-    }
-
-or-cases : (a b : Bool) → (a || b) ≡ true → (a ≡ false → b ≡ true)
-or-cases true b e h = absurd (true≢false h)
-or-cases false b e h = e
-
-pub source-bits : (kind source : ℕ) → goodSource kind source ≡ true → source < 16777216
-source-bits kind source e = by-zero (eqb source 0) refl
-  where
-    two : Bool
-    two = eqb kind 2 && eqb (source % 2) 0 && ltb source 16777216
-
-    four : Bool
-    four = eqb kind 4 && ltb source 65536
-
-    by-two : (t : Bool) → two ≡ t → (two || four) ≡ true → source < 16777216
-    by-two true p q = ltb-true source 16777216 (both-right (eqb kind 2 && eqb (source % 2) 0) (ltb source 16777216) p)
-    by-two false p q =
-        let f : source < 65536 = ltb-true source 65536 (both-right (eqb kind 4) (ltb source 65536) (or-cases two four q p)) in
-        omega arith
-
-    by-zero : (t : Bool) → eqb source 0 ≡ t → source < 16777216
-    by-zero true z = let p : source ≡ 0 = eqb-true source 0 z in omega arith
-    by-zero false z = by-two two refl (simp z at e)
+use Rattle.vdp_state.specs.Same.{same}
+use Rattle.vdp_state.proofs.Bools.{both-left, both-right, both}
+use Rattle.vdp_state.proofs.Facts.{dma-facts, source-bits}
+use Rattle.vdp_state.proofs.Same.{same-equal, same-self}
+use Rattle.vdp_tape.specs.Record.{bit, recordOf, stepOf, goodRecord}
 
 -- ---- numbers of two and three bytes, flags
 two-back : (n : ℕ) → n / 256 * 256 + n % 256 ≡ n

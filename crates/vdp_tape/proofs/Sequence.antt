@@ -1,47 +1,27 @@
 -- Demand 3: the theorem over whole sequences of calls, and what a step back brings back.
 --     demand3                     the claim `Demand3` of specs/Demand.antt
 --     step-back-takes-back        the claim `StepBackTakesBack` beside it
-use Prim.Native.Nat.{ℕ, zero, suc, _+_, _-_, _<_, _≤_}
+use Prim.Native.Nat.{ℕ, suc, _≤_}
 use mathlib.Core.Path.{_≡_, refl, ap, ap₂, subst, _∙_}
 use mathlib.Core.List.{List, [], _∷_}
 use native.Mathlib.Omega.{arith}
-use borrow.Author.Tests.{leb-true, eq-eqb, le-ltb}
-use lib.Dec.{eqb, leb}
+use borrow.Author.Tests.{eq-eqb, le-ltb}
 use lib.ListN.{length}
-use Rattle.vdp_state.specs.declared.state.Dma.{Dma}
 use Rattle.vdp_state.specs.declared.state.State.{State}
-use Rattle.vdp_state.specs.declared.state.Step.{Step}
 use Rattle.vdp_state.specs.Answer.{first}
-use Rattle.vdp_state.specs.Cell.{perform}
-use Rattle.vdp_state.specs.Range.{Bytes, GoodChip}
+use Rattle.vdp_state.specs.Range.{GoodChip}
 use Rattle.vdp_state.specs.State.{Chip, chip}
-use Rattle.vdp_state.proofs.Laws.{performed-good}
+use Rattle.vdp_state.proofs.Laws.{StepsGood}
+use Rattle.vdp_ports.proofs.Decided.{control-good, write-good, read-good, status-good, frame-good}
 use Rattle.vdp_dma.specs.Run.{unitsMade}
-use Rattle.vdp_dma.specs.Unit.{unitDma, unit}
+use Rattle.vdp_dma.proofs.Decided.{units-good}
 use Rattle.vdp_tape.specs.Book.{Act, Make, StepBack, Book, newBook, enterBy, enterBack, enter}
 use Rattle.vdp_tape.specs.Demand.{Fits, AllFit, Seen, servedAll, enteredAll, Demand3, servedTo, enteredTo, StepBackTakesBack}
 use Rattle.vdp_tape.specs.Number.{capacity}
 use Rattle.vdp_tape.specs.Recorded.{Call, ControlWrite, DataWrite, DataRead, StatusRead, NewFrame, Run, planOf, recorded}
 use Rattle.vdp_tape.specs.Recorder.{Recorder, recorder}
 use Rattle.vdp_tape.specs.StepBack.{backTests, stepBack}
-use Rattle.vdp_tape.proofs.Decided.{by-cond, control-good, write-good, read-good, status-good, frame-good, unit-good}
-use Rattle.vdp_tape.proofs.Demand.{Alike, StepsGood, Together, plan-together, back-together}
-
--- ---- the units of a run
-unit-lowers : (cartridge ram : List ℕ) (c : Chip) → 0 < c .state .control .dma .remaining → unit cartridge ram c .control .dma .remaining ≡ c .state .control .dma .remaining - 1
-unit-lowers cartridge ram c more =
-    let d = c .state .control .dma in
-    let Lower : Step → Type 0 = λ t. t .control .dma .remaining ≡ d .remaining - 1 in
-    let lowered : (source : ℕ) → unitDma d source .remaining ≡ d .remaining - 1 =
-    λ source. by-cond (λ (x : Dma). x .remaining ≡ d .remaining - 1) (leb (d .remaining) 1) _ _ (λ e. let h = leb-true (d .remaining) 1 e in omega arith) (λ e. refl) in
-    by-cond Lower (eqb (d .kind) 2) _ _ (λ e. lowered _) (λ e. by-cond Lower (eqb (d .kind) 3) _ _ (λ f. lowered _) (λ f. lowered _))
-
-units-good : (cartridge ram : List ℕ) → Bytes cartridge → Bytes ram → (n : ℕ) (c : Chip) → GoodChip c → n ≤ c .state .control .dma .remaining → StepsGood (unit cartridge ram) n c
-unfolding perform
-units-good cartridge ram b r zero c g h = tt
-units-good cartridge ram b r (suc n) c g h =
-    let u = unit-good cartridge ram b r c g (omega arith) in
-    (u, units-good cartridge ram b r n (perform c (unit cartridge ram c)) (performed-good c (unit cartridge ram c) g u) (omega (arith, unit-lowers cartridge ram c (let m : 0 < c .state .control .dma .remaining = omega arith in m))))
+use Rattle.vdp_tape.proofs.Demand.{Alike, Together, plan-together, back-together}
 
 -- ---- each call
 -- the steps of a call are in range on a good chip

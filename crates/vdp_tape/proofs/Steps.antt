@@ -1,5 +1,5 @@
 -- Recorded calls of one step, and loops that record or undo steps.
-use Prim.Native.Nat.{ℕ, zero, suc, _+_, _-_, _*_, _<_, _≤_}
+use Prim.Native.Nat.{ℕ, zero, suc, _+_, _-_, _*_, _/_, _%_, _<_, _≤_}
 use mathlib.Core.Path.{_≡_, refl, sym, ap, ap₂, subst, _∙_}
 use mathlib.Core.Bool.{Bool, true, false, cond, not, _&&_, _||_}
 use mathlib.Core.List.{List, [], _∷_}
@@ -14,7 +14,8 @@ use Rattle.vdp_state.specs.declared.state.Store.the-variants.{Nothing, Vram, Cr
 use Rattle.vdp_state.specs.Cell.{perform, undoing, present, storedIn}
 use Rattle.vdp_state.specs.Good.{good}
 use Rattle.vdp_state.specs.State.{Chip, chip}
-use Rattle.vdp_dma.proofs.Accepted.{cond-zero, none}
+use Rattle.vdp_state.proofs.Bools.{by-cases, by-cond, none, cond-zero}
+use Rattle.vdp_ports.specs.Control.{controlStep}
 use Rattle.vdp_tape.specs.Number.{capacity, recordedNumber}
 use Rattle.vdp_tape.specs.OneStep.{OneStep, OffVram}
 use Rattle.vdp_tape.specs.Record.{stepOf, goodRecord, recordAt}
@@ -66,11 +67,16 @@ stays vram (Register i b) h = refl
 -- a step that leaves VRAM alone is recorded alike beside any VRAM
 pub beside-vram : (vram : List ℕ) (s : State) (tape : List ℕ) (count : ℕ) (t : Step) (number result : ℕ) → OffVram (t .store) → beside vram (replied number result (recorder s [] tape count) (recordStep (recorder s [] tape count) t)) ≡ replied number result (recorder s vram tape count) (recordStep (recorder s vram tape count) t)
 unfolding recordStep perform undoing
-beside-vram vram s tape count t number result off = by-number (eqb number 0) refl
-  where
-    by-number : (b : Bool) → eqb number 0 ≡ b → beside vram (replied number result (recorder s [] tape count) (recordStep (recorder s [] tape count) t)) ≡ replied number result (recorder s vram tape count) (recordStep (recorder s vram tape count) t)
-    by-number true e = simp (e, kept s vram (t .store) off, stays vram (t .store) off)
-    by-number false e = simp e
+beside-vram vram s tape count t number result off =
+    by-cases (eqb number 0) (λ e. simp (e, kept s vram (t .store) off, stays vram (t .store) off)) (λ e. simp e)
+
+-- a control word stores a register or nothing
+pub control-off : (s : State) (w : ℕ) → OffVram (controlStep s w .store)
+unfolding controlStep
+control-off s w =
+    let Off : Step → Type 0 = λ t. OffVram (t .store) in
+    by-cond Off (s .control .port .pending) _ _ (λ e. tt)
+    (λ e. by-cond Off (eqb (w / 16384) 2) _ _ (λ f. by-cond Off (ltb (w / 256 % 32) 24) _ _ (λ h. tt) (λ h. tt)) (λ f. tt))
 
 -- ---- loops over the records of a tape
 module _ (tape : List ℕ) (top left : ℕ) where

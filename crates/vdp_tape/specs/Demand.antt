@@ -4,7 +4,7 @@ use mathlib.Core.Path.{_≡_}
 use mathlib.Core.List.{List, [], _∷_}
 use lib.ListN.{length, getD}
 use Rattle.vdp_state.specs.declared.state.State.{State}
-use Rattle.vdp_state.specs.Range.{Bytes, GoodChip}
+use Rattle.vdp_state.specs.Range.{AllBytes, GoodChip}
 use Rattle.vdp_state.specs.State.{Chip, chip}
 use Rattle.vdp_tape.specs.Book.{Act, Make, StepBack, Book, newBook, Entry, enter}
 use Rattle.vdp_tape.specs.Number.{capacity}
@@ -24,7 +24,7 @@ Fits (DataWrite w) = w < 65536
 Fits DataRead = Unit {0}
 Fits StatusRead = Unit {0}
 Fits NewFrame = Unit {0}
-Fits (Run cartridge ram budget) = Bytes cartridge × Bytes ram
+Fits (Run cartridge ram budget) = AllBytes cartridge × AllBytes ram
 
 abbrev pub AllFit : List Act → Type 0
 AllFit [] = Unit {0}

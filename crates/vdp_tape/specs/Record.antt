@@ -1,6 +1,6 @@
 -- A tape record: the step that undoes a step, in 32 bytes (document 01, The tape). One layout writes and reads it.
 use Prim.Native.Nat.{ℕ, _+_, _*_, _/_, _%_}
-use mathlib.Core.Bool.{Bool, true, false, cond, _&&_}
+use mathlib.Core.Bool.{Bool, cond, _&&_}
 use mathlib.Core.List.{List, [], _∷_}
 use lib.Dec.{eqb}
 use lib.ListN.{getD, take, drop}
@@ -9,6 +9,7 @@ use Rattle.vdp_state.specs.declared.state.Store.{Store}
 use Rattle.vdp_state.specs.declared.state.Store.the-variants.{Nothing, Vram, Cram, Vsram, Register}
 use Rattle.vdp_state.specs.Good.{goodControl}
 use Rattle.vdp_state.specs.Range.{goodStore}
+use Rattle.vdp_state.specs.Same.{same}
 use Rattle.vdp_tape.specs.declared.«record».Cell.{Cell}
 
 -- "cell kind 0 none, 1 VRAM word, 2 colour, 3 scroll, 4 register; place; content. Kind 0 has zero place and content."
@@ -66,13 +67,6 @@ stepOf l =
       };
       store = storeOf (cell (getD l 3 0) (twoAt l 4) (twoAt l 6));
     }
-
--- the same bytes
-abbrev pub same : List ℕ → List ℕ → Bool
-same [] [] = true
-same [] (y ∷ ys) = false
-same (x ∷ xs) [] = false
-same (x ∷ xs) (y ∷ ys) = eqb x y && same xs ys
 
 -- "A good record keeps these ranges and those of GOOD; every other is bad": its bytes are those of the step that they
 -- read as, and that step is in range

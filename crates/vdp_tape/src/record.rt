@@ -1,8 +1,9 @@
 // A tape record (document 01, The tape): the step that undoes a step, in 32 bytes.
 ghost use mathlib.Core.Path.{_≡_};
 ghost use Prim.Native.Nat.{_+_, _*_};
-ghost use Rattle.vdp_tape.specs.Record.{cellOf, storeOf, bit as bitOf, recordOf, twoAt, threeAt, stepOf, same as sameBytes, goodRecord};
+ghost use Rattle.vdp_tape.specs.Record.{cellOf, storeOf, bit as bitOf, recordOf, twoAt, threeAt, stepOf, goodRecord};
 ghost use Rattle.vdp_state.specs.Range.{goodStore};
+ghost use Rattle.vdp_state.specs.Same.{same as sameBytes};
 use vdp_state::cell::byte_at;
 use vdp_state::cell::joined;
 use vdp_state::colour::colour_word;

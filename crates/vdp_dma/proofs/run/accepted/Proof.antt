@@ -3,10 +3,11 @@ use Prim.Native.Nat.{ℕ, _≤_, _<_, min}
 use borrow.Author.Needs.{needs}
 use mathlib.Core.Path.{_≡_, sym, ap, subst, _∙_}
 use native.Mathlib.Omega.{arith}
-use Rattle.vdp_dma.proofs.Accepted.{Accepted, Sizes, accepted, sizes, accepted-ready, fill-ran, copy-ran, none-remaining, some-remaining}
+use Rattle.vdp_dma.proofs.Accepted.{Accepted, Sizes, accepted, sizes, accepted-ready, fill-ran, copy-ran}
 use Rattle.vdp_dma.specs.Run.{ran, unitsMade}
 use Rattle.vdp_dma.specs.Transfer.{Ready}
 use Rattle.vdp_dma.specs.Unit.{fillStep, copyStep}
+use Rattle.vdp_state.proofs.Facts.{state-dma, none-remaining, some-remaining}
 use Rattle.vdp_state.specs.Iterate.{steps}
 use Rattle.vdp_state.specs.State.{chip}
 use Rattle.vdp_dma.proofs.run.accepted.Statement.{statement}
@@ -34,7 +35,7 @@ fill-units-requires : tie.Need-fill-units-requires
 fill-units-requires c κs =
     let s = c .before .before .before .before .before .before .before in
     let u = c .before .before .before .units-made .ensures in
-    (memory s .vramSize, some-remaining (s .args .s) (known s .state) (omega (arith, c .before .if2 .taken)), omega (arith, u))
+    (memory s .vramSize, some-remaining _ (state-dma (s .args .s) (known s .state)) (omega (arith, c .before .if2 .taken)), omega (arith, u))
 
 returns-2 : tie.Need-returns-2
 returns-2 c =
@@ -46,7 +47,7 @@ copy-units-requires : tie.Need-copy-units-requires
 copy-units-requires c κs =
     let s = c .before .before .before .before .before .before .before .before in
     let u = c .before .before .before .before .units-made .ensures in
-    (memory s .vramSize, some-remaining (s .args .s) (known s .state) (omega (arith, c .before .if3 .taken)), omega (arith, u))
+    (memory s .vramSize, some-remaining _ (state-dma (s .args .s) (known s .state)) (omega (arith, c .before .if3 .taken)), omega (arith, u))
 
 returns-3 : tie.Need-returns-3
 returns-3 c =
@@ -58,7 +59,7 @@ returns-4 : tie.Need-returns-4
 returns-4 c =
     let s = c .before .before .before .before .before .before .before in
     let a = s .args in
-    let z : a .s .control .dma .remaining ≡ 0 = none-remaining (a .s) (known s .state) (c .before .before .if1 .left) (c .before .if2 .left) (c .if3 .left) in
+    let z : a .s .control .dma .remaining ≡ 0 = let f = state-dma (a .s) (known s .state) in none-remaining _ f (omega (arith, f .kind, c .before .before .if1 .left, c .before .if2 .left, c .if3 .left)) in
     ap (λ (n : ℕ). ran (a .cartridge .now) (a .ram .now) n (chip (a .s) (a .vram .now))) (let e : 0 ≡ unitsMade (a .s) (a .budget) = omega arith in e)
 
 pub accepted-spec : {M : Type 1} → statement M

@@ -2,7 +2,7 @@
 use borrow.Author.Needs.{needs}
 use mathlib.Core.Path.{refl}
 use Rattle.vdp_state.specs.State.{chip}
-use Rattle.vdp_tape.proofs.Decided.{control-off}
+use Rattle.vdp_tape.proofs.Steps.{control-off}
 use Rattle.vdp_tape.specs.Recorded.{ControlWrite, planOf}
 use Rattle.vdp_tape.proofs.calls.control_write.Statement.{statement}
 use Rattle.vdp_tape.proofs.calls.control_write.Tie as tie

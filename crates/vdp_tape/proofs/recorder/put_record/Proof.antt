@@ -5,7 +5,7 @@ use lib.ListN.{length, drop, length-set}
 use lib.Seq.{sets}
 use mathlib.Core.Path.{_≡_, refl, sym, _∙_}
 use native.Mathlib.Omega.{arith}
-use Rattle.vdp_tape.proofs.Same.{sets-start, sets-turn, sets-end}
+use Rattle.vdp_tape.proofs.Stored.{sets-start, sets-turn, sets-end}
 use Rattle.vdp_tape.proofs.recorder.put_record.Statement.{statement}
 use Rattle.vdp_tape.proofs.recorder.put_record.Tie as tie
 
