@@ -10,9 +10,8 @@ use lib.ListN.{length}
 use Rattle.vdp_state.specs.declared.state.Dma.{Dma}
 use Rattle.vdp_state.specs.declared.state.State.{State}
 use Rattle.vdp_state.specs.declared.state.Step.{Step}
-use Rattle.vdp_state.specs.Cell.{perform}
+use Rattle.vdp_state.specs.Cell.{perform, made, steps}
 use Rattle.vdp_state.specs.Good.{good, goodSource}
-use Rattle.vdp_state.specs.Iterate.{made, steps}
 use Rattle.vdp_state.specs.State.{Chip, chip}
 use Rattle.vdp_state.proofs.Iterate.{iterate-related}
 use Rattle.vdp_state.proofs.Bools.{by-cases, or-true, either, none, cond-zero}

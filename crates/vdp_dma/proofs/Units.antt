@@ -14,9 +14,8 @@ use Rattle.vdp_state.specs.declared.state.Port.{Port}
 use Rattle.vdp_state.specs.declared.state.State.{State}
 use Rattle.vdp_state.specs.declared.state.Step.{Step}
 use Rattle.vdp_state.specs.declared.state.Store.the-variants.{Nothing, Vram}
-use Rattle.vdp_state.specs.Cell.{putWord, storedIn, perform}
+use Rattle.vdp_state.specs.Cell.{putWord, storedIn, perform, made, steps}
 use Rattle.vdp_state.specs.Range.{AllBytes}
-use Rattle.vdp_state.specs.Iterate.{made, steps}
 use Rattle.vdp_state.specs.State.{Chip, chip, withControl, withPort, withDma}
 use Rattle.vdp_state.proofs.Bools.{by-cases}
 use Rattle.vdp_state.proofs.Iterate.{iterate-start, iterate-turn, iterate-end}

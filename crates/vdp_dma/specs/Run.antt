@@ -6,7 +6,7 @@ use lib.Dec.{eqb, leb}
 use lib.ListN.{length}
 use Rattle.vdp_state.specs.declared.state.State.{State}
 use Rattle.vdp_state.specs.Answer.{Test, gives, first, refused, done, Outcome, outcome}
-use Rattle.vdp_state.specs.Iterate.{steps}
+use Rattle.vdp_state.specs.Cell.{steps}
 use Rattle.vdp_state.specs.State.{Chip}
 use Rattle.vdp_ports.specs.Refusal.{badState}
 use Rattle.vdp_dma.specs.Source.{allLent}

@@ -46,7 +46,8 @@ pub extern "C" fn kuthbareen_control_write_byte(s: &mut State, b: u8) -> Given
 // Writes a word to the data port.
 #[no_mangle]
 pub extern "C" fn kuthbareen_data_write(s: &mut State, vram: &mut [u8], w: u16) -> Given
-    ensures { λ r. ⌜ outcome (withState r (now (s .exit))) (now (vram .exit)) ≡ dataWrite (chip (now (s .entry)) (now (vram .entry))) w ⌝ }
+    ensures { λ r. ⌜ outcome (withState r (now (s .exit))) (now (vram .exit))
+        ≡ dataWrite (chip (now (s .entry)) (now (vram .entry))) w ⌝ }
 {
     let answer = data_write(*s, vram, w);
     *s = answer.state;
@@ -59,7 +60,8 @@ pub extern "C" fn kuthbareen_data_write(s: &mut State, vram: &mut [u8], w: u16) 
 // Writes a byte to the data port: the byte stands in both halves of the word.
 #[no_mangle]
 pub extern "C" fn kuthbareen_data_write_byte(s: &mut State, vram: &mut [u8], b: u8) -> Given
-    ensures { λ r. ⌜ outcome (withState r (now (s .exit))) (now (vram .exit)) ≡ dataWrite (chip (now (s .entry)) (now (vram .entry))) (byteWord b) ⌝ }
+    ensures { λ r. ⌜ outcome (withState r (now (s .exit))) (now (vram .exit))
+        ≡ dataWrite (chip (now (s .entry)) (now (vram .entry))) (byteWord b) ⌝ }
 {
     let answer = data_write_byte(*s, vram, b);
     *s = answer.state;

@@ -17,7 +17,8 @@ pub extern "C" fn kuthbareen_run<'a>(
     ram: &'a [u8],
     budget: u32,
 ) -> Given
-    ensures { λ r. ⌜ outcome (withState r (now (s .exit))) (now (vram .exit)) ≡ runOutcome (chip (now (s .entry)) (now (vram .entry))) (now (cartridge .entry)) (now (ram .entry)) budget ⌝ }
+    ensures { λ r. ⌜ outcome (withState r (now (s .exit))) (now (vram .exit))
+        ≡ runOutcome (chip (now (s .entry)) (now (vram .entry))) (now (cartridge .entry)) (now (ram .entry)) budget ⌝ }
 {
     let answer = run(*s, vram, cartridge, ram, budget);
     *s = answer.state;

@@ -6,7 +6,7 @@
 use Prim.Native.Nat.{ℕ, zero, suc, _+_, _-_, _<_, _≤_}
 use mathlib.Core.Path.{_≡_, refl, ap, _∙_}
 use native.Mathlib.Omega.{arith}
-use Rattle.vdp_state.specs.Iterate.{iterate}
+use Rattle.vdp_state.specs.Cell.{iterate}
 
 pub iterate-related : {A B : Type 0} (f : A → A) (g : B → B) (R : ℕ → A → B → Type 0) → ((n : ℕ) (x : A) (y : B) → R (suc n) x y → R n (f x) (g y)) → (n : ℕ) (x : A) (y : B) → R n x y → R 0 (iterate f n x) (iterate g n y)
 iterate-related f g R next zero x y r = r

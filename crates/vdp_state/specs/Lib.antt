@@ -3,7 +3,6 @@ pub mod Cell
 pub mod Colour
 pub mod Fresh
 pub mod Good
-pub mod Iterate
 pub mod Range
 pub mod Same
 pub mod State

@@ -9,7 +9,7 @@ use lib.Dec.{eqb, ltb}
 use lib.ListN.{length, take, drop}
 use Rattle.vdp_state.specs.Answer.{Test, gives, holdsAt, firstOf, order, first}
 use Rattle.vdp_state.specs.Good.{all}
-use Rattle.vdp_state.proofs.Bools.{both-left, both-right}
+use Rattle.vdp_state.proofs.Bools.{by-cases, both-left, both-right}
 use Rattle.vdp_tape.specs.Number.{recordedNumber}
 use Rattle.vdp_tape.specs.OneStep.{Numbered}
 
@@ -37,23 +37,15 @@ module _ (ts : List Test) (over full : Bool) where
 
   later : (ns : List ℕ) → all between ns ≡ true → Later (firstOf (ns ++ (6 ∷ [])) ts) (firstOf (ns ++ (6 ∷ [])) (gives 2 over ∷ gives 6 full ∷ ts))
   later [] e = last (holdsAt 6 ts) full refl
-  later (n ∷ ns) e = by-test (later ns (both-right (between n) (all between ns) e)) (holdsAt n ts) refl
-    where
-      here : between n ≡ true
-      here = both-left (between n) (all between ns) e
-
-      high : 2 < n
-      high = ltb-true 2 n (both-left (ltb 2 n) (not (eqb n 6)) here)
-
-      is-not : (k : ℕ) → k ≤ 2 → eqb n k ≡ false
-      is-not k h = ne-eqb n k (λ q. let bad : ⊥ = omega (arith, high) in bad)
-
-      six : eqb n 6 ≡ false
-      six = not-true (eqb n 6) (both-right (ltb 2 n) (not (eqb n 6)) here)
-
-      by-test : Later (firstOf (ns ++ (6 ∷ [])) ts) (firstOf (ns ++ (6 ∷ [])) (gives 2 over ∷ gives 6 full ∷ ts)) → (t : Bool) → holdsAt n ts ≡ t → Later (firstOf ((n ∷ ns) ++ (6 ∷ [])) ts) (firstOf ((n ∷ ns) ++ (6 ∷ [])) (gives 2 over ∷ gives 6 full ∷ ts))
-      by-test rest true h = simp (is-not 2 (omega arith), six, h) (record { with-full = simp (is-not 0 (omega arith)); not-one = is-not 1 (omega arith) })
-      by-test rest false h = simp (is-not 2 (omega arith), six, h) rest
+  later (n ∷ ns) e =
+      let here : between n ≡ true = both-left (between n) (all between ns) e in
+      let high : 2 < n = ltb-true 2 n (both-left (ltb 2 n) (not (eqb n 6)) here) in
+      let is-not : (k : ℕ) → k ≤ 2 → eqb n k ≡ false = λ k h. ne-eqb n k (λ q. let bad : ⊥ = omega arith in bad) in
+      let six : eqb n 6 ≡ false = not-true (eqb n 6) (both-right (ltb 2 n) (not (eqb n 6)) here) in
+      let rest = later ns (both-right (between n) (all between ns) e) in
+      by-cases (holdsAt n ts)
+      (λ h. simp (is-not 2 (omega arith), six, h) (record { with-full = simp (is-not 0 (omega arith)); not-one = is-not 1 (omega arith) }))
+      (λ h. simp (is-not 2 (omega arith), six, h) rest)
 
   by-first : (h1 h2 o : Bool) (q r : ℕ) → Later q r → cond h1 1 (cond (o || h2) 2 r) ≡ withTape (cond h1 1 (cond h2 2 q)) o full
   by-first true h2 o q r l = refl

@@ -1,12 +1,11 @@
--- The claim `RecordedAsPlain` of specs/Plain.antt, proved over plans.
+-- The claim `RecordedAsPlain` of specs/Recorded.antt, proved over plans.
 use Prim.Native.Nat.{ℕ}
 use mathlib.Core.Path.{_≡_, refl, sym, ap, _∙_}
 use borrow.Author.Tests.{eqb-true}
 use lib.Dec.{eqb}
 use Rattle.vdp_state.specs.declared.state.Step.{Step}
 use Rattle.vdp_state.specs.Answer.{first, done, answered, Outcome, outcome, served}
-use Rattle.vdp_state.specs.Cell.{perform}
-use Rattle.vdp_state.specs.Iterate.{made, steps}
+use Rattle.vdp_state.specs.Cell.{perform, made, steps}
 use Rattle.vdp_state.specs.State.{Chip}
 use Rattle.vdp_state.proofs.Bools.{by-cases}
 use Rattle.vdp_state.proofs.Iterate.{iterate-mapped}
@@ -17,8 +16,7 @@ use Rattle.vdp_ports.specs.Status.{statusNumber, statusStep, statusWord}
 use Rattle.vdp_dma.specs.Run.{ranOutcome}
 use Rattle.vdp_tape.specs.Number.{capacity, recordedNumber}
 use Rattle.vdp_tape.specs.OneStep.{OffVram}
-use Rattle.vdp_tape.specs.Plain.{plainOf, withoutTape, RecordedAsPlain}
-use Rattle.vdp_tape.specs.Recorded.{Call, ControlWrite, DataWrite, DataRead, StatusRead, NewFrame, Run, planOf}
+use Rattle.vdp_tape.specs.Recorded.{Call, ControlWrite, DataWrite, DataRead, StatusRead, NewFrame, Run, planOf, plainOf, withoutTape, RecordedAsPlain}
 use Rattle.vdp_tape.specs.Recorder.{Recorder, recordNext, recordSteps, Plan, replied, recordedBy}
 use Rattle.vdp_tape.proofs.Demand.{chip-after}
 use Rattle.vdp_tape.proofs.Numbers.{recorded-number, accepted}

@@ -6,8 +6,7 @@ use lib.Dec.{eqb}
 use lib.ListN.{length, getD, drop}
 use Rattle.vdp_state.specs.declared.state.Step.{Step}
 use Rattle.vdp_state.specs.Answer.{first}
-use Rattle.vdp_state.specs.Cell.{perform}
-use Rattle.vdp_state.specs.Iterate.{iterate}
+use Rattle.vdp_state.specs.Cell.{perform, iterate}
 use Rattle.vdp_state.specs.State.{Chip}
 use Rattle.vdp_tape.specs.Number.{recordedNumber}
 use Rattle.vdp_tape.specs.Recorded.{Call, planOf}

@@ -2,7 +2,6 @@ pub mod Book
 pub mod Demand
 pub mod Number
 pub mod OneStep
-pub mod Plain
 pub mod Record
 pub mod Recorded
 pub mod Recorder

@@ -1,14 +1,15 @@
 -- The recorded calls: the plain form's work and one record for each step (document 01, The tape).
 use Prim.Native.Nat.{ℕ}
+use mathlib.Core.Path.{_≡_}
 use mathlib.Core.List.{List}
 use Rattle.vdp_state.specs.declared.state.Step.{Step}
-use Rattle.vdp_state.specs.Answer.{Test}
+use Rattle.vdp_state.specs.Answer.{Test, Outcome, outcome}
 use Rattle.vdp_state.specs.State.{Chip}
-use Rattle.vdp_ports.specs.Control.{controlTests, controlStep}
-use Rattle.vdp_ports.specs.Data.{dataTests, dataWriteStep, dataReadStep, dataWord}
-use Rattle.vdp_ports.specs.Frame.{frameTests, frameStep}
-use Rattle.vdp_ports.specs.Status.{statusTests, statusStep, statusWord}
-use Rattle.vdp_dma.specs.Run.{runTests, unitsMade}
+use Rattle.vdp_ports.specs.Control.{controlTests, controlStep, controlWrite}
+use Rattle.vdp_ports.specs.Data.{dataTests, dataWriteStep, dataReadStep, dataWord, dataWrite, dataRead}
+use Rattle.vdp_ports.specs.Frame.{frameTests, frameStep, newFrame}
+use Rattle.vdp_ports.specs.Status.{statusTests, statusStep, statusWord, statusRead}
+use Rattle.vdp_dma.specs.Run.{runTests, unitsMade, run}
 use Rattle.vdp_dma.specs.Unit.{unit}
 use Rattle.vdp_tape.specs.Recorder.{Recorder, Plan, Reply, recordedBy}
 
@@ -44,3 +45,20 @@ planOf (Run cartridge ram budget) c =
 -- what a recorded call leaves
 abbrev pub recorded : Call → Recorder → Reply
 recorded call r = recordedBy (planOf call (r .chip)) r
+
+-- what the plain form of a call leaves; those that are lent no VRAM leave it as it is
+abbrev pub plainOf : Call → Chip → Outcome
+plainOf (ControlWrite w) c = outcome (controlWrite (c .state) w) (c .vram)
+plainOf (DataWrite w) c = dataWrite c w
+plainOf DataRead c = outcome (dataRead c) (c .vram)
+plainOf StatusRead c = outcome (statusRead (c .state)) (c .vram)
+plainOf NewFrame c = outcome (newFrame (c .state)) (c .vram)
+plainOf (Run cartridge ram budget) c = run c cartridge ram budget
+
+-- a reply without its tape
+abbrev pub withoutTape : Reply → Outcome
+withoutTape o = outcome (record { number = o .number; result = o .result; state = o .recorder .chip .state }) (o .recorder .chip .vram)
+
+-- the claim: a recorded call that is accepted leaves the chip and the result of the plain call
+abbrev pub RecordedAsPlain : Type 0
+RecordedAsPlain = (call : Call) (r : Recorder) → recorded call r .number ≡ 0 → withoutTape (recorded call r) ≡ plainOf call (r .chip)

@@ -7,8 +7,7 @@ use lib.Seq.{sets}
 use Rattle.vdp_state.specs.declared.state.State.{State}
 use Rattle.vdp_state.specs.declared.state.Step.{Step}
 use Rattle.vdp_state.specs.Answer.{Test}
-use Rattle.vdp_state.specs.Cell.{perform, undoing}
-use Rattle.vdp_state.specs.Iterate.{iterate}
+use Rattle.vdp_state.specs.Cell.{perform, undoing, iterate}
 use Rattle.vdp_state.specs.State.{Chip, chip}
 use Rattle.vdp_tape.specs.declared.recorder.Recorded.{Recorded}
 use Rattle.vdp_tape.specs.Number.{capacity, recordedNumber}

@@ -40,7 +40,9 @@ fn without_vram(
     t: Step,
     result: u32,
 ) -> Recorded
-    ensures { λ r. ⌜ ((m : List ℕ) (p : Plan) → OneStep p (chip s m) plain result t → OffVram (p .step (chip s m) .store) → reply r m (now (tape .exit)) ≡ recordedBy p (recorder s m (now (tape .entry)) count)) ⌝ }
+    ensures { λ r. ⌜ ((m : List ℕ) (p : Plan) → OneStep p (chip s m) plain result t → OffVram (p .step (chip s m) .store)
+        → reply r m (now (tape .exit))
+        ≡ recordedBy p (recorder s m (now (tape .entry)) count)) ⌝ }
 {
     let mut none = [0u8; 0];
     record_one(plain, s, &mut none, tape, count, t, result)
@@ -48,21 +50,24 @@ fn without_vram(
 
 // Writes a word to the control port.
 pub fn control_write(s: State, tape: &mut [u8], count: usize, w: u16) -> Recorded
-    ensures { λ r. ⌜ ((m : List ℕ) → reply r m (now (tape .exit)) ≡ recorded (ControlWrite w) (recorder s m (now (tape .entry)) count)) ⌝ }
+    ensures { λ r. ⌜ ((m : List ℕ) → reply r m (now (tape .exit))
+        ≡ recorded (ControlWrite w) (recorder s m (now (tape .entry)) count)) ⌝ }
 {
     without_vram(control_number(s), s, tape, count, control_step(s, w), 0)
 }
 
 // Writes a byte to the control port.
 pub fn control_write_byte(s: State, tape: &mut [u8], count: usize, b: u8) -> Recorded
-    ensures { λ r. ⌜ ((m : List ℕ) → reply r m (now (tape .exit)) ≡ recorded (ControlWrite (byteWord b)) (recorder s m (now (tape .entry)) count)) ⌝ }
+    ensures { λ r. ⌜ ((m : List ℕ) → reply r m (now (tape .exit))
+        ≡ recorded (ControlWrite (byteWord b)) (recorder s m (now (tape .entry)) count)) ⌝ }
 {
     control_write(s, tape, count, 257 * (b as u16))
 }
 
 // Reads the status word.
 pub fn status_read(s: State, tape: &mut [u8], count: usize) -> Recorded
-    ensures { λ r. ⌜ ((m : List ℕ) → reply r m (now (tape .exit)) ≡ recorded StatusRead (recorder s m (now (tape .entry)) count)) ⌝ }
+    ensures { λ r. ⌜ ((m : List ℕ) → reply r m (now (tape .exit))
+        ≡ recorded StatusRead (recorder s m (now (tape .entry)) count)) ⌝ }
 {
     without_vram(
         status_number(s),
@@ -76,14 +81,16 @@ pub fn status_read(s: State, tape: &mut [u8], count: usize) -> Recorded
 
 // Begins a new frame.
 pub fn new_frame(s: State, tape: &mut [u8], count: usize) -> Recorded
-    ensures { λ r. ⌜ ((m : List ℕ) → reply r m (now (tape .exit)) ≡ recorded NewFrame (recorder s m (now (tape .entry)) count)) ⌝ }
+    ensures { λ r. ⌜ ((m : List ℕ) → reply r m (now (tape .exit))
+        ≡ recorded NewFrame (recorder s m (now (tape .entry)) count)) ⌝ }
 {
     without_vram(frame_number(s), s, tape, count, frame_step(s), 0)
 }
 
 // Writes a word to the data port.
 pub fn data_write(s: State, vram: &mut [u8], tape: &mut [u8], count: usize, w: u16) -> Recorded
-    ensures { λ r. ⌜ reply r (now (vram .exit)) (now (tape .exit)) ≡ recorded (DataWrite w) (recorder s (now (vram .entry)) (now (tape .entry)) count) ⌝ }
+    ensures { λ r. ⌜ reply r (now (vram .exit)) (now (tape .exit))
+        ≡ recorded (DataWrite w) (recorder s (now (vram .entry)) (now (tape .entry)) count) ⌝ }
 {
     let number = data_number(s, vram);
     record_one(number, s, vram, tape, count, data_write_step(s, w), 0)
@@ -91,14 +98,16 @@ pub fn data_write(s: State, vram: &mut [u8], tape: &mut [u8], count: usize, w: u
 
 // Writes a byte to the data port.
 pub fn data_write_byte(s: State, vram: &mut [u8], tape: &mut [u8], count: usize, b: u8) -> Recorded
-    ensures { λ r. ⌜ reply r (now (vram .exit)) (now (tape .exit)) ≡ recorded (DataWrite (byteWord b)) (recorder s (now (vram .entry)) (now (tape .entry)) count) ⌝ }
+    ensures { λ r. ⌜ reply r (now (vram .exit)) (now (tape .exit))
+        ≡ recorded (DataWrite (byteWord b)) (recorder s (now (vram .entry)) (now (tape .entry)) count) ⌝ }
 {
     data_write(s, vram, tape, count, 257 * (b as u16))
 }
 
 // Reads a word from the data port.
 pub fn data_read(s: State, vram: &[u8], tape: &mut [u8], count: usize) -> Recorded
-    ensures { λ r. ⌜ reply r (now (vram .entry)) (now (tape .exit)) ≡ recorded DataRead (recorder s (now (vram .entry)) (now (tape .entry)) count) ⌝ }
+    ensures { λ r. ⌜ reply r (now (vram .entry)) (now (tape .exit))
+        ≡ recorded DataRead (recorder s (now (vram .entry)) (now (tape .entry)) count) ⌝ }
 {
     let word = data_word(s, vram) as u32;
     without_vram(
@@ -111,7 +120,7 @@ pub fn data_read(s: State, vram: &[u8], tape: &mut [u8], count: usize) -> Record
     )
 }
 
-// Makes and records n DMA units.
+// Makes and records DMA units, each of which is one step.
 fn record_units(
     s: State,
     vram: &mut [u8],
@@ -119,15 +128,16 @@ fn record_units(
     ram: &[u8],
     tape: &mut [u8],
     count: usize,
-    n: u32,
+    steps: u32,
 ) -> State
-    requires { ⌜ count + n ≤ capacity (now tape) ⌝ }
-    ensures { λ r. ⌜ recorder r (now (vram .exit)) (now (tape .exit)) (count + n) ≡ recordSteps (unit (now (cartridge .entry)) (now (ram .entry))) n (recorder s (now (vram .entry)) (now (tape .entry)) count) ⌝ }
+    requires { ⌜ count + steps ≤ capacity (now tape) ⌝ }
+    ensures { λ r. ⌜ recorder r (now (vram .exit)) (now (tape .exit)) (count + steps)
+        ≡ recordSteps (unit (now (cartridge .entry)) (now (ram .entry))) steps (recorder s (now (vram .entry)) (now (tape .entry)) count) ⌝ }
 {
     let mut next = s;
     let mut at = count;
     let mut i = 0;
-    while i < n {
+    while i < steps {
         let t = unit_step(next, vram, cartridge, ram);
         next = record_step(next, vram, tape, at, t);
         at += 1;
@@ -146,7 +156,8 @@ pub fn run(
     count: usize,
     budget: u32,
 ) -> Recorded
-    ensures { λ r. ⌜ reply r (now (vram .exit)) (now (tape .exit)) ≡ recorded (Run (now (cartridge .entry)) (now (ram .entry)) budget) (recorder s (now (vram .entry)) (now (tape .entry)) count) ⌝ }
+    ensures { λ r. ⌜ reply r (now (vram .exit)) (now (tape .exit))
+        ≡ recorded (Run (now (cartridge .entry)) (now (ram .entry)) budget) (recorder s (now (vram .entry)) (now (tape .entry)) count) ⌝ }
 {
     let made = units_made(s, budget);
     let number = with_tape(

@@ -44,7 +44,8 @@ pub(crate) fn record_step(
     t: Step,
 ) -> State
     requires { ⌜ count < capacity (now tape) ⌝ }
-    ensures { λ r. ⌜ recorder r (now (vram .exit)) (now (tape .exit)) (count + 1) ≡ recordStep (recorder s (now (vram .entry)) (now (tape .entry)) count) t ⌝ }
+    ensures { λ r. ⌜ recorder r (now (vram .exit)) (now (tape .exit)) (count + 1)
+        ≡ recordStep (recorder s (now (vram .entry)) (now (tape .entry)) count) t ⌝ }
 {
     let bytes = record_of(undoing(s, vram, t));
     put_record(tape, RECORD_SIZE * count, &bytes);
@@ -61,7 +62,9 @@ pub(crate) fn record_one(
     t: Step,
     result: u32,
 ) -> Recorded
-    ensures { λ r. ⌜ ((p : Plan) → OneStep p (chip s (now (vram .entry))) plain result t → reply r (now (vram .exit)) (now (tape .exit)) ≡ recordedBy p (recorder s (now (vram .entry)) (now (tape .entry)) count)) ⌝ }
+    ensures { λ r. ⌜ ((p : Plan) → OneStep p (chip s (now (vram .entry))) plain result t
+        → reply r (now (vram .exit)) (now (tape .exit))
+        ≡ recordedBy p (recorder s (now (vram .entry)) (now (tape .entry)) count)) ⌝ }
 {
     let number = with_tape(plain, tape, count, 1);
     if number != DONE {

@@ -80,7 +80,8 @@ fn back_number(s: State, vram: &[u8], tape: &[u8], count: usize, k: usize) -> u8
 
 // Takes back the last k steps.
 pub fn step_back(s: State, vram: &mut [u8], tape: &[u8], count: usize, k: usize) -> Recorded
-    ensures { λ r. ⌜ reply r (now (vram .exit)) (now (tape .entry)) ≡ stepBack (recorder s (now (vram .entry)) (now (tape .entry)) count) k ⌝ }
+    ensures { λ r. ⌜ reply r (now (vram .exit)) (now (tape .entry))
+        ≡ stepBack (recorder s (now (vram .entry)) (now (tape .entry)) count) k ⌝ }
 {
     let number = back_number(s, vram, tape, count, k);
     if number != DONE {

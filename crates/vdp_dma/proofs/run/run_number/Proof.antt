@@ -22,7 +22,7 @@ last c =
     let m : badMemory (a .vram .now) (a .cartridge .now) (a .ram .now) .holds ≡ false = sym (c .before .before .before .bad-memory .ensures) ∙ c .before .before .if2 .left in (
       g,
       m,
-      c .lacking .ensures ∙ ap (λ (n : ℕ). eqb (d .kind) 2 && not (eqb n 0 || atHand (a .cartridge .now) (d .source) n)) (c .before .units-made .ensures)
+      c .lacking .ensures ∙ ap (λ (n : ℕ). eqb (d .kind) 2 && not (eqb n 0 || atHand (a .cartridge .now) (d .source) n)) (c .before .words-made .ensures)
           ∙ sym (lacks (a .s) (a .vram .now) (a .cartridge .now) (a .ram .now) (a .budget) g m),
     )
 

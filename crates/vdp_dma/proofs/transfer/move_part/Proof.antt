@@ -15,7 +15,7 @@ use Rattle.vdp_ports.specs.Data.{advanced}
 use Rattle.vdp_ports.specs.Length.{register}
 use Rattle.vdp_ports.specs.declared.access.Access.{Access}
 use Rattle.vdp_state.specs.Cell.{storedIn}
-use Rattle.vdp_state.specs.State.{Chip, chip}
+use Rattle.vdp_state.specs.State.{Chip, chip, withPort, withDma}
 use Rattle.vdp_state.specs.declared.state.Control.{Control}
 use Rattle.vdp_state.specs.declared.state.Dma.{Dma}
 use Rattle.vdp_state.specs.declared.state.Port.{Port}
@@ -77,11 +77,10 @@ loop-again c =
     let next : Control = unitControl now (register (a .t1) 15) (nextSource (now .dma .source)) in
     let w : ℕ = getD (a .part .now) (l .i) 0 * 256 + getD (a .part .now) (l .i + 1) 0 in
     let x : Store = written (accessBy (l .port .code)) (l .port .address) w in
-    let same : c .before .before .before .before .before .before .before .before .before .before .written .result ≡ x =
-    c .before .before .before .before .before .before .before .before .before .before .written .ensures
-    ∙ ap₂ (λ (q : Access) (v : ℕ). written q (l .port .address) v) (l .inv .4) (c .before .before .before .before .before .before .before .before .before .before .before .joined .ensures) in
+    let word = c .before .before .before .before .before .before .before .before .before .before in
+    let same : word .written .result ≡ x = word .written .ensures ∙ ap₂ (λ (q : Access) (v : ℕ). written q (l .port .address) v) (l .inv .4) (word .before .joined .ensures) in
     let control : unitsControl k (c .before .advanced .result) (l .made + 1) (c .next-source .result) ≡ next =
-    ap₂ (λ (p : Port) (y : Dma). record { port = p; dma = y; flags = k .flags }) (c .before .advanced .ensures ∙ ap (advanced (l .port)) (l .inv .3))
+    ap₂ (λ (p : Port) (y : Dma). withDma (withPort k p) y) (c .before .advanced .ensures ∙ ap (advanced (l .port)) (l .inv .3))
     (ap (unitsDma d (l .made + 1)) (c .next-source .ensures) ∙ units-next d (l .made) live (l .source) (nextSource (l .source))
     ∙ ap (λ (y : ℕ). unitDma (unitsDma d (l .made) (l .source)) (nextSource y)) (sym (units-source d (l .made) live (l .source)))) in
     let made : Control → List ℕ → List ℕ → List ℕ → Chip = λ q cs vs m. chip (holding (a .t1) q cs vs) m in (
