@@ -1,22 +1,23 @@
 -- What is known of a run that is not refused, and that its units are all of one kind.
-use Prim.Native.Nat.{ℕ, zero, suc, _+_, _-_, _*_, _%_, _^_, _<_, _≤_, min}
+use Prim.Native.Nat.{ℕ, zero, suc, _+_, _-_, _*_, _%_, _^_, _<_, _≤_}
 use mathlib.Core.Path.{_≡_, refl, sym, ap, subst, _∙_}
-use mathlib.Core.Bool.{Bool, true, false, cond, not, _&&_, _||_}
+use mathlib.Core.Bool.{Bool, true, false, not, _&&_, _||_}
 use mathlib.Core.List.{List}
 use native.Mathlib.Omega.{arith}
-use borrow.Author.Tests.{eqb-true, eqb-false, eq-eqb, ne-eqb, le-leb, lt-leb, leb-true, leb-false, ltb-true, ltb-false, lt-ltb, le-ltb, not-false}
+use borrow.Author.Tests.{eqb-true, eqb-false, eq-eqb, ne-eqb, le-leb, lt-leb, leb-true, leb-false, ltb-true, ltb-false, not-false}
 use lib.Dec.{eqb, leb, ltb, eqb·suc-zero}
 use lib.ListN.{length}
 use Rattle.vdp_state.specs.declared.state.Dma.{Dma}
 use Rattle.vdp_state.specs.declared.state.State.{State}
 use Rattle.vdp_state.specs.declared.state.Step.{Step}
+use Rattle.vdp_state.specs.Answer.{first}
 use Rattle.vdp_state.specs.Cell.{perform, made, steps}
 use Rattle.vdp_state.specs.Good.{good, goodSource}
-use Rattle.vdp_state.specs.State.{Chip, chip}
+use Rattle.vdp_state.specs.State.{Chip}
 use Rattle.vdp_state.proofs.Iterate.{iterate-related}
 use Rattle.vdp_state.proofs.Bools.{by-cases, or-true, either, none, cond-zero}
 use Rattle.vdp_state.proofs.Facts.{state-dma, source-even}
-use Rattle.vdp_dma.specs.Run.{ran, unitsMade, badMemory, notLent, runNumber}
+use Rattle.vdp_dma.specs.Run.{ran, unitsMade, badMemory, notLent, runTests}
 use Rattle.vdp_dma.specs.Source.{workRam, nextSource, isLent, allLent}
 use Rattle.vdp_dma.specs.Transfer.{atHand, Ready}
 use Rattle.vdp_dma.specs.Unit.{unitDma, fillStep, copyStep, unit}
@@ -104,7 +105,7 @@ pub record Accepted (c : Chip) (cartridge ram : List ℕ) (budget : ℕ) : Type 
   pub memory : badMemory (c .vram) cartridge ram .holds ≡ false
   pub lent : notLent (c .state) cartridge budget .holds ≡ false
 
-pub accepted : (c : Chip) (cartridge ram : List ℕ) (budget : ℕ) → runNumber c cartridge ram budget ≡ 0 → Accepted c cartridge ram budget
+pub accepted : (c : Chip) (cartridge ram : List ℕ) (budget : ℕ) → first (runTests c cartridge ram budget) ≡ 0 → Accepted c cartridge ram budget
 accepted c cartridge ram budget e =
     let one = cond-zero _ 1 _ (omega arith) e in
     let two = cond-zero _ 2 _ (omega arith) (one .1) in

@@ -1,18 +1,17 @@
 -- What a DMA unit decides on a good chip is a step in range, and so are all the units of a run.
 use Prim.Native.Nat.{ℕ, zero, suc, _+_, _-_, _*_, _%_, _<_, _≤_}
 use mathlib.Core.Path.{_≡_, refl, sym, subst}
-use mathlib.Core.Bool.{Bool, true, false}
+use mathlib.Core.Bool.{true, false}
 use mathlib.Core.List.{List, []}
 use native.Mathlib.Omega.{arith}
 use borrow.Author.Tests.{eqb-true, eqb-false, eq-eqb, ne-eqb, le-leb, lt-leb, leb-true, leb-false, lt-ltb}
 use lib.Dec.{eqb, leb, ltb, lit<, lit≤}
 use lib.ListN.{getD}
-use Rattle.vdp_state.specs.declared.state.Control.{Control}
 use Rattle.vdp_state.specs.declared.state.Dma.{Dma}
 use Rattle.vdp_state.specs.declared.state.Step.{Step}
 use Rattle.vdp_state.specs.declared.state.Store.{Store}
 use Rattle.vdp_state.specs.Cell.{perform}
-use Rattle.vdp_state.specs.Good.{goodSource, goodDma, mostUnits}
+use Rattle.vdp_state.specs.Good.{goodSource, mostUnits}
 use Rattle.vdp_state.specs.Range.{AllBytes, GoodControl, GoodChip, goodStore, GoodStep}
 use Rattle.vdp_state.specs.State.{Chip}
 use Rattle.vdp_state.proofs.Bools.{by-cond, both}

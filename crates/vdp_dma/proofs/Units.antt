@@ -1,7 +1,7 @@
 -- What one unit of a fill or a copy does to the control part and VRAM, and the loops that make such units.
-use Prim.Native.Nat.{ℕ, zero, suc, _+_, _-_, _*_, _/_, _%_, _<_, _≤_}
+use Prim.Native.Nat.{ℕ, _+_, _-_, _*_, _/_, _%_, _<_, _≤_}
 use mathlib.Core.Path.{_≡_, refl, sym, ap, ap₂, _∙_}
-use mathlib.Core.Bool.{Bool, true, false, cond}
+use mathlib.Core.Bool.{false, cond}
 use mathlib.Core.List.{List}
 use native.Mathlib.Omega.{arith}
 use borrow.Author.Tests.{eqb-true, eqb-false, leb-true, leb-false, le-leb, lt-leb}
@@ -13,7 +13,7 @@ use Rattle.vdp_state.specs.declared.state.Dma.{Dma}
 use Rattle.vdp_state.specs.declared.state.Port.{Port}
 use Rattle.vdp_state.specs.declared.state.State.{State}
 use Rattle.vdp_state.specs.declared.state.Step.{Step}
-use Rattle.vdp_state.specs.declared.state.Store.the-variants.{Nothing, Vram}
+use Rattle.vdp_state.specs.declared.state.Store.the-variants.{Nothing}
 use Rattle.vdp_state.specs.Cell.{putWord, storedIn, perform, made, steps}
 use Rattle.vdp_state.specs.Range.{AllBytes}
 use Rattle.vdp_state.specs.State.{Chip, chip, withControl, withPort, withDma}
@@ -73,6 +73,12 @@ units-none k h =
     let same : k .dma .remaining - 0 ≡ k .dma .remaining = omega arith in
     simp (lt-leb (k .dma .remaining) 0 h, same)
 
+-- the control part after one unit more
+pub units-control-next : (k : Control) (p p′ : Port) (source source′ i increment : ℕ) (next : ℕ → ℕ) → i < k .dma .remaining → p′ ≡ advanced p increment → source′ ≡ next source → unitsControl k p′ (i + 1) source′ ≡ unitControl (unitsControl k p i source) increment (next (unitsDma (k .dma) i source .source))
+units-control-next k p p′ source source′ i increment next live pe se =
+    ap₂ (λ (x : Port) (y : Dma). withDma (withPort k x) y) pe
+    (units-next (k .dma) i live source source′ ∙ ap (unitDma (unitsDma (k .dma) i source)) (se ∙ ap next (sym (units-source (k .dma) i live source))))
+
 -- ---- loops that make units of one kind
 -- the units left, made from here, lead where all n of them lead from the start, whatever the rest of the state
 abbrev pub Leads : (Chip → Step) → Control → ℕ → ℕ → List ℕ → Port → ℕ → ℕ → List ℕ → Type 0
@@ -97,10 +103,7 @@ module _ (step : Chip → Step) (k : Control) (n increment : ℕ) (vram₀ : Lis
       let live : i < d .remaining = omega arith in
       let before : Chip = chip (withControl s (unitsControl k p i source)) m in
       let same : source ≡ unitsDma d i source .source = sym (units-source d i live source) in
-      let dma : unitsDma d (i + 1) source′ ≡ unitDma (unitsDma d i source) (next (unitsDma d i source .source)) =
-      units-next d i live source source′ ∙ ap (unitDma (unitsDma d i source)) (se ∙ ap next same) in
-      let control : unitsControl k p′ (i + 1) source′ ≡ unitControl (unitsControl k p i source) (register s 15) (next (unitsDma d i source .source)) =
-      ap₂ (λ (x : Port) (y : Dma). withDma (withPort k x) y) (pe ∙ ap (advanced p) (sym e)) dma in
+      let control = units-control-next k p p′ source source′ i (register s 15) next live (pe ∙ ap (advanced p) (sym e)) se in
       let vram : m′ ≡ put p (unitsDma d i source .source) (unitsDma d i source .fill) m = me ∙ ap₂ (λ (x y : ℕ). put p x y m) same (sym (units-fill d i live source)) in
       ap (steps step (n - (i + 1))) (ap₂ (λ (x : Control) (y : List ℕ). chip (withControl s x) y) control vram ∙ sym (is s (unitsControl k p i source) m))
       ∙ sym (iterate-turn (made step) n i before h) ∙ leads s e

@@ -1,17 +1,16 @@
 -- A transfer that moves its words part by part makes the units of the definition one by one.
 use Prim.Native.Nat.{ℕ, zero, suc, _+_, _-_, _*_, _/_, _%_, _<_, _≤_, min}
 use mathlib.Core.Path.{_≡_, refl, sym, ap, ap₂, subst, _∙_}
-use mathlib.Core.Bool.{Bool, true, false, cond, _||_, false≢true}
+use mathlib.Core.Bool.{Bool, true, false, cond, false≢true}
 use mathlib.Core.List.{List, [], _∷_}
 use native.Mathlib.Omega.{arith}
-use borrow.Author.Tests.{eqb-true, eqb-false, eq-eqb, ne-eqb, le-leb, lt-leb, leb-true, leb-false}
+use borrow.Author.Tests.{eqb-false, eq-eqb, ne-eqb, le-leb, lt-leb, leb-true, leb-false}
 use lib.Dec.{eqb, leb, ltb}
 use lib.ListN.{length, getD, take, drop, length-take, length-drop}
 use lib.Seq.{drop-cons}
 use Rattle.vdp_state.specs.declared.state.Control.{Control}
 use Rattle.vdp_state.specs.declared.state.Dma.{Dma}
 use Rattle.vdp_state.specs.declared.state.State.{State}
-use Rattle.vdp_state.specs.declared.state.Step.{Step}
 use Rattle.vdp_state.specs.Cell.{wordAt, stored, storedIn, perform}
 use Rattle.vdp_state.specs.State.{Chip, chip, withControl}
 use Rattle.vdp_state.proofs.Bools.{by-cases}
@@ -19,7 +18,7 @@ use Rattle.vdp_ports.specs.declared.access.Access.{Access}
 use Rattle.vdp_ports.specs.declared.access.Access.the-variants.{Write, Read, Nothing}
 use Rattle.vdp_ports.specs.declared.access.Memory.the-variants.{Vram, Cram, Vsram}
 use Rattle.vdp_ports.specs.Access.{access, wordNumber, written}
-use Rattle.vdp_ports.specs.Length.{register, idle}
+use Rattle.vdp_ports.specs.Length.{register}
 use Rattle.vdp_dma.specs.Run.{ran}
 use Rattle.vdp_dma.specs.Source.{workRam, wordFrom, wordsNext, nextSource}
 use Rattle.vdp_dma.specs.Transfer.{moved, holding, coloursIn, scrollsIn, atHand, Ready}

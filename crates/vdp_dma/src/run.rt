@@ -2,10 +2,9 @@
 ghost use mathlib.Core.Path.{_≡_};
 ghost use mathlib.Core.Bool.{not, _&&_, _||_};
 ghost use lib.Dec.{eqb};
-ghost use lib.ListN.{length};
-ghost use Rattle.vdp_state.specs.Answer.{outcome};
+ghost use Rattle.vdp_state.specs.Answer.{first, outcome};
 ghost use Rattle.vdp_state.specs.State.{chip};
-ghost use Rattle.vdp_dma.specs.Run.{unitsMade, badMemory, runNumber, ran, run as runOutcome};
+ghost use Rattle.vdp_dma.specs.Run.{unitsMade, badMemory, runTests, ran, run as runOutcome};
 ghost use Rattle.vdp_dma.specs.Transfer.{atHand};
 use crate::bytes::copy_units;
 use crate::bytes::fill_units;
@@ -74,7 +73,7 @@ fn lacking(d: Dma, cartridge: &[u8], n: Words) -> bool
 
 // The number that a run answers.
 pub fn run_number(s: State, vram: &[u8], cartridge: &[u8], ram: &[u8], budget: u32) -> u8
-    ensures { λ r. ⌜ r ≡ runNumber (chip s (now (vram .entry))) (now (cartridge .entry)) (now (ram .entry)) budget ⌝ }
+    ensures { λ r. ⌜ r ≡ first (runTests (chip s (now (vram .entry))) (now (cartridge .entry)) (now (ram .entry)) budget) ⌝ }
 {
     if !good(s) {
         return BAD_STATE;
@@ -91,7 +90,7 @@ pub fn run_number(s: State, vram: &[u8], cartridge: &[u8], ram: &[u8], budget: u
 
 // Makes the units of a run that is not refused.
 fn accepted<'a>(s: State, vram: &mut [u8], cartridge: &'a [u8], ram: &'a [u8], budget: u32) -> State
-    requires { ⌜ runNumber (chip s (now vram)) (now cartridge) (now ram) budget ≡ 0 ⌝ }
+    requires { ⌜ first (runTests (chip s (now vram)) (now cartridge) (now ram) budget) ≡ 0 ⌝ }
     ensures { λ r. ⌜ chip r (now (vram .exit))
         ≡ ran (now (cartridge .entry)) (now (ram .entry)) (unitsMade s budget) (chip s (now (vram .entry))) ⌝ }
 {

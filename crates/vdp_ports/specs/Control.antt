@@ -79,8 +79,5 @@ controlStep s w =
 abbrev pub controlTests : State → List Test
 controlTests s = badState s ∷ busy s ∷ []
 
-abbrev pub controlNumber : State → ℕ
-controlNumber s = first (controlTests s)
-
 abbrev pub controlWrite : State → ℕ → Answer
-controlWrite s w = answered (controlNumber s) s (controlStep s w) 0
+controlWrite s w = answered (first (controlTests s)) s (controlStep s w) 0

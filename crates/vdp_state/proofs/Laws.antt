@@ -17,7 +17,7 @@ use Rattle.vdp_state.specs.declared.state.State.{State}
 use Rattle.vdp_state.specs.declared.state.Step.{Step}
 use Rattle.vdp_state.specs.declared.state.Store.{Store}
 use Rattle.vdp_state.specs.declared.state.Store.the-variants.{Nothing, Vram, Cram, Vsram, Register}
-use Rattle.vdp_state.specs.Cell.{wordAt, putWord, stored, storedIn, perform, present, undoing}
+use Rattle.vdp_state.specs.Cell.{wordAt, putWord, perform, present, undoing}
 use Rattle.vdp_state.specs.Fresh.{fresh}
 use Rattle.vdp_state.specs.Good.{all, isColour, isScroll, goodControl, good}
 use Rattle.vdp_state.specs.Range.{AllBytes, GoodControl, GoodChip, goodStore, GoodStep}

@@ -9,7 +9,7 @@ use lib.Dec.{eqb, ltb}
 use lib.ListN.{length, take, drop}
 use Rattle.vdp_state.specs.Answer.{Test, gives, holdsAt, firstOf, order, first}
 use Rattle.vdp_state.specs.Good.{all}
-use Rattle.vdp_state.proofs.Bools.{by-cases, both-left, both-right}
+use Rattle.vdp_state.proofs.Bools.{by-cases, both-left, both-right, cond-zero}
 use Rattle.vdp_tape.specs.Number.{recordedNumber}
 use Rattle.vdp_tape.specs.OneStep.{Numbered}
 
@@ -66,14 +66,14 @@ pub record Accepted (plain count room steps : ℕ) : Type 0 where
   pub fits : count + steps ≤ room
 
 pub accepted : (plain count room steps : ℕ) → withTape plain (ltb room count) (ltb (room - count) steps) ≡ 0 → Accepted plain count room steps
-accepted plain count room steps e = by-plain (eqb plain 1) (ltb room count) (eqb plain 0) (ltb (room - count) steps) refl refl refl e
-  where
-    by-plain : (one over done full : Bool) → ltb room count ≡ over → eqb plain 0 ≡ done → ltb (room - count) steps ≡ full → cond one 1 (cond over 2 (cond done (cond full 6 0) plain)) ≡ 0 → Accepted plain count room steps
-    by-plain true over done full b c d z = absurd (let bad : ⊥ = omega arith in bad)
-    by-plain false true done full b c d z = absurd (let bad : ⊥ = omega arith in bad)
-    by-plain false false false full b c d z = absurd (eqb-false plain 0 c z)
-    by-plain false false true true b c d z = absurd (let bad : ⊥ = omega arith in bad)
-    by-plain false false true false b c d z = record { plain-done = eqb-true plain 0 c; fits = omega (arith, ltb-false room count b, ltb-false (room - count) steps d) }
+accepted plain count room steps e =
+    let one = cond-zero (eqb plain 1) 1 _ (omega arith) e in
+    let two = cond-zero (ltb room count) 2 _ (omega arith) (one .1) in
+    by-cases (eqb plain 0)
+    (λ z.
+    let full = cond-zero (ltb (room - count) steps) 6 0 (omega arith) (simp z at (two .1)) in
+    record { plain-done = eqb-true plain 0 z; fits = omega (arith, ltb-false room count (two .0), ltb-false (room - count) steps (full .0)) })
+    (λ z. absurd (eqb-false plain 0 z (simp z at (two .1))))
 
 pub numbered : {plain count room steps r : ℕ} → r ≡ withTape plain (ltb room count) (ltb (room - count) steps) → Numbered plain count room steps r
 numbered {plain} {count} {room} {steps} e =

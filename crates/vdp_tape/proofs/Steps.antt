@@ -1,7 +1,7 @@
--- Recorded calls of one step, and loops that record or undo steps.
-use Prim.Native.Nat.{ℕ, zero, suc, _+_, _-_, _*_, _/_, _%_, _<_, _≤_}
-use mathlib.Core.Path.{_≡_, refl, sym, ap, ap₂, subst, _∙_}
-use mathlib.Core.Bool.{Bool, true, false, cond, not, _&&_, _||_}
+-- Outcomes of recorded calls, and loops that go over the records of a tape.
+use Prim.Native.Nat.{ℕ, suc, _+_, _-_, _*_, _/_, _%_, _<_, _≤_}
+use mathlib.Core.Path.{_≡_, refl, sym, ap, ap₂, _∙_}
+use mathlib.Core.Bool.{false, not, _&&_, _||_}
 use mathlib.Core.List.{List, [], _∷_}
 use native.Mathlib.Omega.{arith}
 use borrow.Author.Tests.{ne-eqb, ltb-false}
@@ -19,7 +19,7 @@ use Rattle.vdp_ports.specs.Control.{controlStep}
 use Rattle.vdp_tape.specs.Number.{capacity, recordedNumber}
 use Rattle.vdp_tape.specs.OneStep.{OneStep, OffVram}
 use Rattle.vdp_tape.specs.Record.{stepOf, goodRecord, recordAt}
-use Rattle.vdp_tape.specs.Recorder.{Recorder, recorder, recordStep, recordSteps, Plan, Reply, replied, recordedBy}
+use Rattle.vdp_tape.specs.Recorder.{Recorder, recorder, recordStep, recordSteps, Plan, TapeOutcome, tapeOutcomeAt, recordedBy}
 use Rattle.vdp_tape.specs.StepBack.{topGood, undo, backNumber}
 
 pub empty : (l : List ℕ) → length l ≡ 0 → l ≡ []
@@ -28,21 +28,21 @@ empty (x ∷ l) e = absurd (let bad : ⊥ = omega arith in bad)
 
 -- ---- refused and done
 module _ (result : ℕ) (before after : Recorder) where
-  pub replied-refused : (n m : ℕ) → n ≡ m → (n ≡ 0 → ⊥) → record { number = n; result = 0; recorder = before } ≡ replied m result before after
-  replied-refused n m e h = sym (simp (ne-eqb n 0 h)) ∙ ap (λ (k : ℕ). replied k result before after) e
+  pub outcome-refused : (n m : ℕ) → n ≡ m → (n ≡ 0 → ⊥) → record { number = n; result = 0; recorder = before } ≡ tapeOutcomeAt m result before after
+  outcome-refused n m e h = sym (simp (ne-eqb n 0 h)) ∙ ap (λ (k : ℕ). tapeOutcomeAt k result before after) e
 
-  pub replied-done : (n m : ℕ) → n ≡ m → n ≡ 0 → record { number = 0; result = result; recorder = after } ≡ replied m result before after
-  replied-done n m e z = sym (simp (sym e ∙ z))
+  pub outcome-done : (n m : ℕ) → n ≡ m → n ≡ 0 → record { number = 0; result = result; recorder = after } ≡ tapeOutcomeAt m result before after
+  outcome-done n m e z = sym (simp (sym e ∙ z))
 
--- a plan of one step replies by its number, its result and its step
-pub one-replied : (p : Plan) (r : Recorder) (plain result : ℕ) (t : Step) → OneStep p (r .chip) plain result t → recordedBy p r ≡ replied (recordedNumber (p .tests) (r .count) (capacity (r .tape)) 1) result r (recordStep r t)
-one-replied p r plain result t o =
-    ap (λ (n : ℕ). replied (recordedNumber (p .tests) (r .count) (capacity (r .tape)) n) (p .result) r (recordSteps (p .step) n r)) (o .one)
-    ∙ ap₂ (λ (k : ℕ) (x : Step). replied (recordedNumber (p .tests) (r .count) (capacity (r .tape)) 1) k r (recordStep r x)) (sym (o .result)) (sym (o .step))
+-- the outcome of a plan of one step, by its number, its result and the step
+pub one-outcome : (p : Plan) (r : Recorder) (plain result : ℕ) (t : Step) → OneStep p (r .chip) plain result t → recordedBy p r ≡ tapeOutcomeAt (recordedNumber (p .tests) (r .count) (capacity (r .tape)) 1) result r (recordStep r t)
+one-outcome p r plain result t o =
+    ap (λ (n : ℕ). tapeOutcomeAt (recordedNumber (p .tests) (r .count) (capacity (r .tape)) n) (p .result) r (recordSteps (p .step) n r)) (o .one)
+    ∙ ap₂ (λ (k : ℕ) (x : Step). tapeOutcomeAt (recordedNumber (p .tests) (r .count) (capacity (r .tape)) 1) k r (recordStep r x)) (sym (o .result)) (sym (o .step))
 
 -- ---- calls that are lent no VRAM
--- the same reply beside other VRAM
-abbrev pub beside : List ℕ → Reply → Reply
+-- the same outcome beside other VRAM
+abbrev pub beside : List ℕ → TapeOutcome → TapeOutcome
 beside vram o =
     record {
       number = o .number;
@@ -50,25 +50,18 @@ beside vram o =
       recorder = recorder (o .recorder .chip .state) vram (o .recorder .tape) (o .recorder .count);
     }
 
-kept : (s : State) (vram : List ℕ) (x : Store) → OffVram x → present (chip s []) x ≡ present (chip s vram) x
-kept s vram Nothing h = refl
-kept s vram (Vram place w) h = absurd h
-kept s vram (Cram i w) h = refl
-kept s vram (Vsram i w) h = refl
-kept s vram (Register i b) h = refl
-
-pub stays : (vram : List ℕ) (x : Store) → OffVram x → storedIn vram x ≡ vram
-stays vram Nothing h = refl
-stays vram (Vram place w) h = absurd h
-stays vram (Cram i w) h = refl
-stays vram (Vsram i w) h = refl
-stays vram (Register i b) h = refl
+pub off-vram : (s : State) (vram : List ℕ) (x : Store) → OffVram x → (present (chip s []) x ≡ present (chip s vram) x) × (storedIn vram x ≡ vram)
+off-vram s vram Nothing h = (refl, refl)
+off-vram s vram (Vram place w) h = absurd h
+off-vram s vram (Cram i w) h = (refl, refl)
+off-vram s vram (Vsram i w) h = (refl, refl)
+off-vram s vram (Register i b) h = (refl, refl)
 
 -- a step that leaves VRAM alone is recorded alike beside any VRAM
-pub beside-vram : (vram : List ℕ) (s : State) (tape : List ℕ) (count : ℕ) (t : Step) (number result : ℕ) → OffVram (t .store) → beside vram (replied number result (recorder s [] tape count) (recordStep (recorder s [] tape count) t)) ≡ replied number result (recorder s vram tape count) (recordStep (recorder s vram tape count) t)
+pub beside-vram : (vram : List ℕ) (s : State) (tape : List ℕ) (count : ℕ) (t : Step) (number result : ℕ) → OffVram (t .store) → beside vram (tapeOutcomeAt number result (recorder s [] tape count) (recordStep (recorder s [] tape count) t)) ≡ tapeOutcomeAt number result (recorder s vram tape count) (recordStep (recorder s vram tape count) t)
 unfolding recordStep perform undoing
 beside-vram vram s tape count t number result off =
-    by-cases (eqb number 0) (λ e. simp (e, kept s vram (t .store) off, stays vram (t .store) off)) (λ e. simp e)
+    let o = off-vram s vram (t .store) off in by-cases (eqb number 0) (λ e. simp (e, o .0, o .1)) (λ e. simp e)
 
 -- a control word stores a register or nothing
 pub control-off : (s : State) (w : ℕ) → OffVram (controlStep s w .store)

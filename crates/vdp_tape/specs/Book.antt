@@ -44,25 +44,25 @@ turnedBack zero b = b
 turnedBack (suc k) b = record { present = getD (b .pages) k (b .present); pages = drop (suc k) (b .pages); capacity = b .capacity }
 
 -- the number answered and the book after a call
-pub record Entry : Type 0 where
+pub record BookOutcome : Type 0 where
   pub number : ℕ
   pub book : Book
 
 -- "A refused call changes nothing."
-abbrev pub entry : ℕ → Book → Book → Entry
-entry n before after =
+abbrev pub bookOutcomeAt : ℕ → Book → Book → BookOutcome
+bookOutcomeAt n before after =
     cond (eqb n 0) (record { number = 0; book = after }) (record { number = n; book = before })
 
 -- a recorded call: "A call's number is the table's, read with the present state and VRAM and with the number of pages as
 -- the count"
-abbrev pub enterBy : Plan → Book → Entry
-enterBy p b = entry (recordedNumber (p .tests) (length (b .pages)) (b .capacity) (p .steps)) b (turned (p .step) (p .steps) b)
+abbrev pub enterBy : Plan → Book → BookOutcome
+enterBy p b = bookOutcomeAt (recordedNumber (p .tests) (length (b .pages)) (b .capacity) (p .steps)) b (turned (p .step) (p .steps) b)
 
 -- a step back: "8 is never given"
-abbrev pub enterBack : ℕ → Book → Entry
-enterBack k b = entry (first (backTests (b .present) (length (b .pages)) (b .capacity) k)) b (turnedBack k b)
+abbrev pub enterBack : ℕ → Book → BookOutcome
+enterBack k b = bookOutcomeAt (first (backTests (b .present) (length (b .pages)) (b .capacity) k)) b (turnedBack k b)
 
 -- "It is fed each call with its arguments"
-abbrev pub enter : Act → Book → Entry
+abbrev pub enter : Act → Book → BookOutcome
 enter (Make call) b = enterBy (planOf call (b .present)) b
 enter (StepBack k) b = enterBack k b

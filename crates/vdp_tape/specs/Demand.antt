@@ -5,31 +5,31 @@ use mathlib.Core.List.{List, [], _∷_}
 use lib.ListN.{length, getD}
 use Rattle.vdp_state.specs.declared.state.State.{State}
 use Rattle.vdp_state.specs.Range.{AllBytes, GoodChip}
-use Rattle.vdp_state.specs.State.{Chip, chip}
-use Rattle.vdp_tape.specs.Book.{Act, Make, StepBack, Book, newBook, Entry, enter}
+use Rattle.vdp_state.specs.State.{chip}
+use Rattle.vdp_tape.specs.Book.{Act, Make, StepBack, Book, newBook, BookOutcome, enter}
 use Rattle.vdp_tape.specs.Number.{capacity}
-use Rattle.vdp_tape.specs.Recorded.{Call, ControlWrite, DataWrite, DataRead, StatusRead, NewFrame, Run, recorded}
-use Rattle.vdp_tape.specs.Recorder.{Recorder, recorder, Reply}
+use Rattle.vdp_tape.specs.Recorded.{ControlWrite, DataWrite, DataRead, StatusRead, NewFrame, Run, recorded}
+use Rattle.vdp_tape.specs.Recorder.{Recorder, recorder, TapeOutcome}
 use Rattle.vdp_tape.specs.StepBack.{stepBack}
 
 -- what the functions give: `recorded` and `stepBack` are what the contracts of `calls` and `step_back` cite
-abbrev pub serve : Act → Recorder → Reply
+abbrev pub serve : Act → Recorder → TapeOutcome
 serve (Make call) r = recorded call r
 serve (StepBack k) r = stepBack r k
 
 -- the numbers and bytes of a call fit their types
-abbrev pub Fits : Call → Type 0
-Fits (ControlWrite w) = w < 65536
-Fits (DataWrite w) = w < 65536
-Fits DataRead = Unit {0}
-Fits StatusRead = Unit {0}
-Fits NewFrame = Unit {0}
-Fits (Run cartridge ram budget) = AllBytes cartridge × AllBytes ram
+abbrev pub Fits : Act → Type 0
+Fits (Make (ControlWrite w)) = w < 65536
+Fits (Make (DataWrite w)) = w < 65536
+Fits (Make DataRead) = Unit {0}
+Fits (Make StatusRead) = Unit {0}
+Fits (Make NewFrame) = Unit {0}
+Fits (Make (Run cartridge ram budget)) = AllBytes cartridge × AllBytes ram
+Fits (StepBack k) = Unit {0}
 
 abbrev pub AllFit : List Act → Type 0
 AllFit [] = Unit {0}
-AllFit (Make call ∷ acts) = Fits call × AllFit acts
-AllFit (StepBack k ∷ acts) = AllFit acts
+AllFit (a ∷ acts) = Fits a × AllFit acts
 
 -- what is seen after a call: the number, the count, the state and VRAM
 pub record Seen : Type 0 where
@@ -38,10 +38,10 @@ pub record Seen : Type 0 where
   pub state : State
   pub vram : List ℕ
 
-abbrev pub seen : Reply → Seen
+abbrev pub seen : TapeOutcome → Seen
 seen o = record { number = o .number; count = o .recorder .count; state = o .recorder .chip .state; vram = o .recorder .chip .vram }
 
-abbrev pub seenInBook : Entry → Seen
+abbrev pub seenInBook : BookOutcome → Seen
 seenInBook e = record { number = e .number; count = length (e .book .pages); state = e .book .present .state; vram = e .book .present .vram }
 
 -- what is seen after each of a sequence of calls, of the functions and of the book

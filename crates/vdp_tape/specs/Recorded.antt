@@ -11,7 +11,7 @@ use Rattle.vdp_ports.specs.Frame.{frameTests, frameStep, newFrame}
 use Rattle.vdp_ports.specs.Status.{statusTests, statusStep, statusWord, statusRead}
 use Rattle.vdp_dma.specs.Run.{runTests, unitsMade, run}
 use Rattle.vdp_dma.specs.Unit.{unit}
-use Rattle.vdp_tape.specs.Recorder.{Recorder, Plan, Reply, recordedBy}
+use Rattle.vdp_tape.specs.Recorder.{Recorder, Plan, TapeOutcome, recordedBy}
 
 -- a recorded call with its arguments; "Cartridge, work RAM [..] may be others at each call". A byte write is the write of
 -- its `byteWord`.
@@ -43,7 +43,7 @@ planOf (Run cartridge ram budget) c =
     }
 
 -- what a recorded call leaves
-abbrev pub recorded : Call → Recorder → Reply
+abbrev pub recorded : Call → Recorder → TapeOutcome
 recorded call r = recordedBy (planOf call (r .chip)) r
 
 -- what the plain form of a call leaves; those that are lent no VRAM leave it as it is
@@ -55,8 +55,8 @@ plainOf StatusRead c = outcome (statusRead (c .state)) (c .vram)
 plainOf NewFrame c = outcome (newFrame (c .state)) (c .vram)
 plainOf (Run cartridge ram budget) c = run c cartridge ram budget
 
--- a reply without its tape
-abbrev pub withoutTape : Reply → Outcome
+-- an outcome without its tape
+abbrev pub withoutTape : TapeOutcome → Outcome
 withoutTape o = outcome (record { number = o .number; result = o .result; state = o .recorder .chip .state }) (o .recorder .chip .vram)
 
 -- the claim: a recorded call that is accepted leaves the chip and the result of the plain call

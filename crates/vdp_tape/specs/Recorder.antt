@@ -9,7 +9,7 @@ use Rattle.vdp_state.specs.declared.state.Step.{Step}
 use Rattle.vdp_state.specs.Answer.{Test}
 use Rattle.vdp_state.specs.Cell.{perform, undoing, iterate}
 use Rattle.vdp_state.specs.State.{Chip, chip}
-use Rattle.vdp_tape.specs.declared.recorder.Recorded.{Recorded}
+use Rattle.vdp_tape.specs.declared.recorder.TapeAnswer.{TapeAnswer}
 use Rattle.vdp_tape.specs.Number.{capacity, recordedNumber}
 use Rattle.vdp_tape.specs.Record.{recordOf}
 
@@ -46,21 +46,21 @@ pub record Plan : Type 0 where
   pub step : Chip → Step
 
 -- what a recorded call leaves
-pub record Reply : Type 0 where
+pub record TapeOutcome : Type 0 where
   pub number : ℕ
   pub result : ℕ
   pub recorder : Recorder
 
-abbrev pub reply : Recorded → List ℕ → List ℕ → Reply
-reply r vram tape = record { number = r .number; result = r .result; recorder = recorder (r .state) vram tape (r .count) }
+abbrev pub tapeOutcome : TapeAnswer → List ℕ → List ℕ → TapeOutcome
+tapeOutcome r vram tape = record { number = r .number; result = r .result; recorder = recorder (r .state) vram tape (r .count) }
 
 -- a call that answers n: at 0 it leaves what its steps left, else "the state and count as they came, zero for every other
 -- result", and the rest untouched
-abbrev pub replied : ℕ → ℕ → Recorder → Recorder → Reply
-replied n result before after =
+abbrev pub tapeOutcomeAt : ℕ → ℕ → Recorder → Recorder → TapeOutcome
+tapeOutcomeAt n result before after =
     cond (eqb n 0) (record { number = 0; result = result; recorder = after })
     (record { number = n; result = 0; recorder = before })
 
-abbrev pub recordedBy : Plan → Recorder → Reply
+abbrev pub recordedBy : Plan → Recorder → TapeOutcome
 recordedBy p r =
-    replied (recordedNumber (p .tests) (r .count) (capacity (r .tape)) (p .steps)) (p .result) r (recordSteps (p .step) (p .steps) r)
+    tapeOutcomeAt (recordedNumber (p .tests) (r .count) (capacity (r .tape)) (p .steps)) (p .result) r (recordSteps (p .step) (p .steps) r)

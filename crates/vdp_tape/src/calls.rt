@@ -8,9 +8,9 @@ ghost use Rattle.vdp_dma.specs.Unit.{unit};
 ghost use Rattle.vdp_tape.specs.Number.{capacity};
 ghost use Rattle.vdp_tape.specs.OneStep.{OneStep, OffVram};
 ghost use Rattle.vdp_tape.specs.Recorded.{ControlWrite, DataWrite, DataRead, StatusRead, NewFrame, Run, recorded};
-ghost use Rattle.vdp_tape.specs.Recorder.{Plan, recorder, recordSteps, reply, recordedBy};
+ghost use Rattle.vdp_tape.specs.Recorder.{Plan, recorder, recordSteps, tapeOutcome, recordedBy};
 use crate::number::with_tape;
-use crate::recorder::Recorded;
+use crate::recorder::TapeAnswer;
 use crate::recorder::record_one;
 use crate::recorder::record_step;
 use vdp_dma::run::run_number;
@@ -39,9 +39,9 @@ fn without_vram(
     count: usize,
     t: Step,
     result: u32,
-) -> Recorded
+) -> TapeAnswer
     ensures { λ r. ⌜ ((m : List ℕ) (p : Plan) → OneStep p (chip s m) plain result t → OffVram (p .step (chip s m) .store)
-        → reply r m (now (tape .exit))
+        → tapeOutcome r m (now (tape .exit))
         ≡ recordedBy p (recorder s m (now (tape .entry)) count)) ⌝ }
 {
     let mut none = [0u8; 0];
@@ -49,24 +49,24 @@ fn without_vram(
 }
 
 // Writes a word to the control port.
-pub fn control_write(s: State, tape: &mut [u8], count: usize, w: u16) -> Recorded
-    ensures { λ r. ⌜ ((m : List ℕ) → reply r m (now (tape .exit))
+pub fn control_write(s: State, tape: &mut [u8], count: usize, w: u16) -> TapeAnswer
+    ensures { λ r. ⌜ ((m : List ℕ) → tapeOutcome r m (now (tape .exit))
         ≡ recorded (ControlWrite w) (recorder s m (now (tape .entry)) count)) ⌝ }
 {
     without_vram(control_number(s), s, tape, count, control_step(s, w), 0)
 }
 
 // Writes a byte to the control port.
-pub fn control_write_byte(s: State, tape: &mut [u8], count: usize, b: u8) -> Recorded
-    ensures { λ r. ⌜ ((m : List ℕ) → reply r m (now (tape .exit))
+pub fn control_write_byte(s: State, tape: &mut [u8], count: usize, b: u8) -> TapeAnswer
+    ensures { λ r. ⌜ ((m : List ℕ) → tapeOutcome r m (now (tape .exit))
         ≡ recorded (ControlWrite (byteWord b)) (recorder s m (now (tape .entry)) count)) ⌝ }
 {
     control_write(s, tape, count, 257 * (b as u16))
 }
 
 // Reads the status word.
-pub fn status_read(s: State, tape: &mut [u8], count: usize) -> Recorded
-    ensures { λ r. ⌜ ((m : List ℕ) → reply r m (now (tape .exit))
+pub fn status_read(s: State, tape: &mut [u8], count: usize) -> TapeAnswer
+    ensures { λ r. ⌜ ((m : List ℕ) → tapeOutcome r m (now (tape .exit))
         ≡ recorded StatusRead (recorder s m (now (tape .entry)) count)) ⌝ }
 {
     without_vram(
@@ -80,16 +80,16 @@ pub fn status_read(s: State, tape: &mut [u8], count: usize) -> Recorded
 }
 
 // Begins a new frame.
-pub fn new_frame(s: State, tape: &mut [u8], count: usize) -> Recorded
-    ensures { λ r. ⌜ ((m : List ℕ) → reply r m (now (tape .exit))
+pub fn new_frame(s: State, tape: &mut [u8], count: usize) -> TapeAnswer
+    ensures { λ r. ⌜ ((m : List ℕ) → tapeOutcome r m (now (tape .exit))
         ≡ recorded NewFrame (recorder s m (now (tape .entry)) count)) ⌝ }
 {
     without_vram(frame_number(s), s, tape, count, frame_step(s), 0)
 }
 
 // Writes a word to the data port.
-pub fn data_write(s: State, vram: &mut [u8], tape: &mut [u8], count: usize, w: u16) -> Recorded
-    ensures { λ r. ⌜ reply r (now (vram .exit)) (now (tape .exit))
+pub fn data_write(s: State, vram: &mut [u8], tape: &mut [u8], count: usize, w: u16) -> TapeAnswer
+    ensures { λ r. ⌜ tapeOutcome r (now (vram .exit)) (now (tape .exit))
         ≡ recorded (DataWrite w) (recorder s (now (vram .entry)) (now (tape .entry)) count) ⌝ }
 {
     let number = data_number(s, vram);
@@ -97,16 +97,22 @@ pub fn data_write(s: State, vram: &mut [u8], tape: &mut [u8], count: usize, w: u
 }
 
 // Writes a byte to the data port.
-pub fn data_write_byte(s: State, vram: &mut [u8], tape: &mut [u8], count: usize, b: u8) -> Recorded
-    ensures { λ r. ⌜ reply r (now (vram .exit)) (now (tape .exit))
+pub fn data_write_byte(
+    s: State,
+    vram: &mut [u8],
+    tape: &mut [u8],
+    count: usize,
+    b: u8,
+) -> TapeAnswer
+    ensures { λ r. ⌜ tapeOutcome r (now (vram .exit)) (now (tape .exit))
         ≡ recorded (DataWrite (byteWord b)) (recorder s (now (vram .entry)) (now (tape .entry)) count) ⌝ }
 {
     data_write(s, vram, tape, count, 257 * (b as u16))
 }
 
 // Reads a word from the data port.
-pub fn data_read(s: State, vram: &[u8], tape: &mut [u8], count: usize) -> Recorded
-    ensures { λ r. ⌜ reply r (now (vram .entry)) (now (tape .exit))
+pub fn data_read(s: State, vram: &[u8], tape: &mut [u8], count: usize) -> TapeAnswer
+    ensures { λ r. ⌜ tapeOutcome r (now (vram .entry)) (now (tape .exit))
         ≡ recorded DataRead (recorder s (now (vram .entry)) (now (tape .entry)) count) ⌝ }
 {
     let word = data_word(s, vram) as u32;
@@ -155,8 +161,8 @@ pub fn run(
     tape: &mut [u8],
     count: usize,
     budget: u32,
-) -> Recorded
-    ensures { λ r. ⌜ reply r (now (vram .exit)) (now (tape .exit))
+) -> TapeAnswer
+    ensures { λ r. ⌜ tapeOutcome r (now (vram .exit)) (now (tape .exit))
         ≡ recorded (Run (now (cartridge .entry)) (now (ram .entry)) budget) (recorder s (now (vram .entry)) (now (tape .entry)) count) ⌝ }
 {
     let made = units_made(s, budget);
@@ -167,14 +173,14 @@ pub fn run(
         made,
     );
     if number != DONE {
-        return Recorded {
+        return TapeAnswer {
             number,
             result: 0,
             count,
             state: s,
         };
     }
-    Recorded {
+    TapeAnswer {
         number: DONE,
         result: made,
         count: count + (made as usize),

@@ -6,7 +6,7 @@ ghost use lib.Seq.{sets};
 ghost use Rattle.vdp_state.specs.State.{chip};
 ghost use Rattle.vdp_tape.specs.Number.{capacity};
 ghost use Rattle.vdp_tape.specs.OneStep.{OneStep};
-ghost use Rattle.vdp_tape.specs.Recorder.{Plan, recorder, recordStep, reply, recordedBy};
+ghost use Rattle.vdp_tape.specs.Recorder.{Plan, recorder, recordStep, tapeOutcome, recordedBy};
 use crate::number::RECORD_SIZE;
 use crate::number::with_tape;
 use crate::record::record_of;
@@ -17,7 +17,7 @@ use vdp_state::state::State;
 use vdp_state::state::Step;
 
 // The answer of a recorded call and of a step back: as the plain one, with the count of records.
-pub struct Recorded {
+pub struct TapeAnswer {
     pub number: u8,
     pub result: u32,
     pub count: usize,
@@ -61,21 +61,21 @@ pub(crate) fn record_one(
     count: usize,
     t: Step,
     result: u32,
-) -> Recorded
+) -> TapeAnswer
     ensures { λ r. ⌜ ((p : Plan) → OneStep p (chip s (now (vram .entry))) plain result t
-        → reply r (now (vram .exit)) (now (tape .exit))
+        → tapeOutcome r (now (vram .exit)) (now (tape .exit))
         ≡ recordedBy p (recorder s (now (vram .entry)) (now (tape .entry)) count)) ⌝ }
 {
     let number = with_tape(plain, tape, count, 1);
     if number != DONE {
-        return Recorded {
+        return TapeAnswer {
             number,
             result: 0,
             count,
             state: s,
         };
     }
-    Recorded {
+    TapeAnswer {
         number: DONE,
         result,
         count: count + 1,

@@ -1,9 +1,8 @@
 -- The invariant: the units left lead where all of them lead from the start.
-use Prim.Native.Nat.{ℕ, _≤_, _<_, _-_, _+_, _%_}
+use Prim.Native.Nat.{_≤_, _-_, _+_, _%_}
 use borrow.Author.Needs.{needs}
 use lib.ListN.{length}
 use mathlib.Core.Path.{_≡_, refl, sym, _∙_}
-use native.Mathlib.Omega.{arith}
 use Rattle.vdp_dma.proofs.Units.{Leads, leads-start, leads-turn, leads-end, copyPut, copy-kind}
 use Rattle.vdp_dma.specs.Unit.{copyStep}
 use Rattle.vdp_dma.proofs.bytes.copy_units.Statement.{statement}

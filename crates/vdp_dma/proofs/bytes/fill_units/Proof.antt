@@ -1,10 +1,9 @@
 -- The invariant: the units left lead where all of them lead from the start.
-use Prim.Native.Nat.{ℕ, _≤_, _<_, _-_}
+use Prim.Native.Nat.{ℕ, _≤_, _-_}
 use borrow.Author.Needs.{needs}
 use lib.ListN.{length}
 use mathlib.Core.Bool.{Bool, cond}
 use mathlib.Core.Path.{_≡_, refl, sym, ap, ap₂, _∙_}
-use native.Mathlib.Omega.{arith}
 use Rattle.vdp_dma.proofs.Units.{Leads, leads-start, leads-turn, leads-end, fillPut, fill-kind}
 use Rattle.vdp_dma.specs.Unit.{byteStored, writesVram, inverted, fillStep}
 use Rattle.vdp_ports.specs.Access.{access}

@@ -3,10 +3,10 @@ use Prim.Native.Nat.{ℕ}
 use borrow.Author.Needs.{needs}
 use borrow.Author.Tests.{not-true, not-false}
 use lib.Dec.{eqb}
-use mathlib.Core.Bool.{Bool, true, false, _&&_, _||_, not}
+use mathlib.Core.Bool.{true, false, _&&_, _||_, not}
 use mathlib.Core.Path.{_≡_, sym, ap, _∙_}
 use Rattle.vdp_dma.proofs.Accepted.{lacks}
-use Rattle.vdp_dma.specs.Run.{badMemory, notLent, unitsMade}
+use Rattle.vdp_dma.specs.Run.{badMemory, notLent}
 use Rattle.vdp_dma.specs.Transfer.{atHand}
 use Rattle.vdp_state.specs.Good.{good}
 use Rattle.vdp_dma.proofs.run.run_number.Statement.{statement}

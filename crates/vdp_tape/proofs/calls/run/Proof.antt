@@ -6,9 +6,9 @@ use native.Mathlib.Omega.{arith}
 use Rattle.vdp_dma.specs.Run.{runTests, unitsMade}
 use Rattle.vdp_dma.specs.Unit.{unit}
 use Rattle.vdp_state.specs.State.{chip}
-use Rattle.vdp_tape.proofs.Steps.{replied-refused, replied-done}
+use Rattle.vdp_tape.proofs.Steps.{outcome-refused, outcome-done}
 use Rattle.vdp_tape.specs.Number.{capacity, recordedNumber}
-use Rattle.vdp_tape.specs.Recorder.{Recorder, Reply, recorder, recordSteps}
+use Rattle.vdp_tape.specs.Recorder.{Recorder, TapeOutcome, recorder, recordSteps}
 use Rattle.vdp_tape.proofs.calls.run.Statement.{statement}
 use Rattle.vdp_tape.proofs.calls.run.Tie as tie
 
@@ -26,7 +26,7 @@ returns c =
     let a = c .before .before .before .before .before .before .before .before .before .before .args in
     let before = recorder (a .s) (a .vram .now) (a .tape .now) (a .count) in
     let made = unitsMade (a .s) (a .budget) in
-    replied-refused made before (recordSteps (unit (a .cartridge .now) (a .ram .now)) made before) _ _ (number (c .before)) (c .if1 .taken)
+    outcome-refused made before (recordSteps (unit (a .cartridge .now) (a .ram .now)) made before) _ _ (number (c .before)) (c .if1 .taken)
 
 add-t17 : tie.Need-add-t17
 add-t17 c = omega (arith, c .before .with-tape .ensures .fits (c .if1 .left), c .before .before .before .before .before .before .before .before .before .before .good)
@@ -41,10 +41,10 @@ returns-2 c =
     let a = w .before .before .before .before .before .before .before .before .before .args in
     let before = recorder (a .s) (a .vram .now) (a .tape .now) (a .count) in
     let step = unit (a .cartridge .now) (a .ram .now) in
-    let made : ℕ → Recorder → Reply = λ n r. record { number = 0; result = n; recorder = r } in
+    let made : ℕ → Recorder → TapeOutcome = λ n r. record { number = 0; result = n; recorder = r } in
     let units = w .before .before .before .before .units-made .ensures in
     ap₂ made units (o .record-units .ensures ∙ ap (λ (n : ℕ). recordSteps step n before) units)
-    ∙ replied-done (unitsMade (a .s) (a .budget)) before (recordSteps step (unitsMade (a .s) (a .budget)) before) _ _ (number w) (o .before .before .before .if1 .left)
+    ∙ outcome-done (unitsMade (a .s) (a .budget)) before (recordSteps step (unitsMade (a .s) (a .budget)) before) _ _ (number w) (o .before .before .before .if1 .left)
 
 pub run-spec : {M : Type 1} → statement M
 run-spec =

@@ -1,8 +1,8 @@
 -- The tests in their order.
-use Prim.Native.Nat.{ℕ, _<_, _≤_, _-_}
+use Prim.Native.Nat.{_-_}
 use borrow.Author.Needs.{needs}
 use borrow.Author.Tests.{eq-eqb, ne-eqb, lt-ltb, le-ltb}
-use mathlib.Core.Path.{sym, ap, subst, _∙_}
+use mathlib.Core.Path.{sym}
 use Rattle.vdp_tape.proofs.Numbers.{numbered}
 use Rattle.vdp_tape.proofs.number.with_tape.Statement.{statement}
 use Rattle.vdp_tape.proofs.number.with_tape.Tie as tie

@@ -1,7 +1,7 @@
 -- By what the parts ensure of the bytes and of the step that they read as.
 use borrow.Author.Needs.{needs}
 use mathlib.Core.Bool.{_&&_}
-use mathlib.Core.Path.{_≡_, ap, _∙_}
+use mathlib.Core.Path.{ap}
 use Rattle.vdp_state.specs.Good.{goodControl}
 use Rattle.vdp_state.specs.Range.{goodStore}
 use Rattle.vdp_state.specs.Same.{same}

@@ -1,9 +1,9 @@
 -- Refused, or the step recorded.
 use borrow.Author.Needs.{needs}
-use mathlib.Core.Path.{_≡_, sym, ap, _∙_}
+use mathlib.Core.Path.{sym, ap, _∙_}
 use native.Mathlib.Omega.{arith}
-use Rattle.vdp_tape.proofs.Steps.{replied-refused, replied-done, one-replied}
-use Rattle.vdp_tape.specs.Recorder.{Recorder, Reply, recorder, recordStep}
+use Rattle.vdp_tape.proofs.Steps.{outcome-refused, outcome-done, one-outcome}
+use Rattle.vdp_tape.specs.Recorder.{Recorder, TapeOutcome, recorder, recordStep}
 use Rattle.vdp_tape.proofs.recorder.record_one.Statement.{statement}
 use Rattle.vdp_tape.proofs.recorder.record_one.Tie as tie
 
@@ -12,8 +12,8 @@ returns c = λ p o.
     let w = c .before in
     let a = w .before .before .before .before .args in
     let before = recorder (a .s) (a .vram .now) (a .tape .now) (a .count) in
-    replied-refused (a .result) before (recordStep before (a .t)) _ _ (w .with-tape .ensures .is (p .tests) (o .number)) (c .if1 .taken)
-    ∙ sym (one-replied p before (a .plain) (a .result) (a .t) o)
+    outcome-refused (a .result) before (recordStep before (a .t)) _ _ (w .with-tape .ensures .is (p .tests) (o .number)) (c .if1 .taken)
+    ∙ sym (one-outcome p before (a .plain) (a .result) (a .t) o)
 
 add-t12 : tie.Need-add-t12
 add-t12 c =
@@ -32,10 +32,10 @@ returns-2 c = λ p o.
     let w = e .before in
     let a = w .before .before .before .before .args in
     let before = recorder (a .s) (a .vram .now) (a .tape .now) (a .count) in
-    let made : Recorder → Reply = λ x. record { number = 0; result = a .result; recorder = x } in
+    let made : Recorder → TapeOutcome = λ x. record { number = 0; result = a .result; recorder = x } in
     ap made (r .record-step .ensures)
-    ∙ replied-done (a .result) before (recordStep before (a .t)) _ _ (w .with-tape .ensures .is (p .tests) (o .number)) (e .if1 .left)
-    ∙ sym (one-replied p before (a .plain) (a .result) (a .t) o)
+    ∙ outcome-done (a .result) before (recordStep before (a .t)) _ _ (w .with-tape .ensures .is (p .tests) (o .number)) (e .if1 .left)
+    ∙ sym (one-outcome p before (a .plain) (a .result) (a .t) o)
 
 pub record-one-spec : {M : Type 1} → statement M
 record-one-spec =
