@@ -9,11 +9,11 @@ use vdp_state::state::Control;
 use vdp_state::state::State;
 use vdp_tape::calls::control_write;
 use vdp_tape::calls::run;
-use vdp_tape::recorder::Recorded;
+use vdp_tape::recorder::TapeAnswer;
 use vdp_tape::step_back::step_back;
 
 // The count, the address, the units remaining and the first three words of VRAM.
-fn show(name: &[u8], r: Recorded, vram: &[u8]) {
+fn show(name: &[u8], r: TapeAnswer, vram: &[u8]) {
     report::count(name, r.count);
     report::word(name, r.state.control.port.address);
     report::long(name, r.state.control.dma.remaining);
@@ -23,19 +23,19 @@ fn show(name: &[u8], r: Recorded, vram: &[u8]) {
 // A recorded run of some units.
 fn onward(
     name: &[u8],
-    r: Recorded,
+    r: TapeAnswer,
     vram: &mut [u8],
     ram: &[u8],
     tape: &mut [u8],
     units: u32,
-) -> Recorded {
+) -> TapeAnswer {
     let next = run(r.state, vram, &[], ram, tape, r.count, units);
     show(name, next, vram);
     next
 }
 
 // Some steps taken back.
-fn backward(r: Recorded, vram: &mut [u8], tape: &[u8], steps: usize) -> Recorded {
+fn backward(r: TapeAnswer, vram: &mut [u8], tape: &[u8], steps: usize) -> TapeAnswer {
     let next = step_back(r.state, vram, tape, r.count, steps);
     show(b"back", next, vram);
     next
@@ -44,7 +44,7 @@ fn backward(r: Recorded, vram: &mut [u8], tape: &[u8], steps: usize) -> Recorded
 // A recorded run of some units, some of them taken back, and the run to its end.
 fn there_and_back(s: State, vram: &mut [u8], ram: &[u8], units: u32, steps: usize) -> State {
     let mut tape = [0u8; 128];
-    let start = Recorded {
+    let start = TapeAnswer {
         number: 0,
         result: 0,
         count: 0,

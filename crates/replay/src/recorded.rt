@@ -19,7 +19,7 @@ use vdp_tape::calls::data_write_byte;
 use vdp_tape::calls::new_frame;
 use vdp_tape::calls::run;
 use vdp_tape::calls::status_read;
-use vdp_tape::recorder::Recorded;
+use vdp_tape::recorder::TapeAnswer;
 use vdp_tape::step_back::step_back;
 
 // The machine once a call has returned this count. A call returns the count that it was given or one within the
@@ -31,7 +31,7 @@ fn with_count(m: Machine, count: usize) -> Machine {
 }
 
 // The state, the count and the line of a call on the tape.
-fn answered(m: Machine, op: u8, r: Recorded) -> Turn {
+fn answered(m: Machine, op: u8, r: TapeAnswer) -> Turn {
     let state = r.state;
     let next = with_count(with_state(m, state), r.count);
     Turn {
@@ -41,7 +41,7 @@ fn answered(m: Machine, op: u8, r: Recorded) -> Turn {
 }
 
 // Ops 1 to 6 and 9, recorded.
-fn port_call(s: State, k: Command, vram: &mut [u8], tape: &mut [u8], count: usize) -> Recorded {
+fn port_call(s: State, k: Command, vram: &mut [u8], tape: &mut [u8], count: usize) -> TapeAnswer {
     let op = k.op;
     match op {
         1 => control_write(s, tape, count, k.b),

@@ -1,4 +1,5 @@
 pub mod Accepted
 pub mod Bench
+pub mod Decided
 pub mod Units
 pub mod Words

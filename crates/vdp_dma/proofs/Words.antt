@@ -1,25 +1,25 @@
 -- A transfer that moves its words part by part makes the units of the definition one by one.
 use Prim.Native.Nat.{ℕ, zero, suc, _+_, _-_, _*_, _/_, _%_, _<_, _≤_, min}
 use mathlib.Core.Path.{_≡_, refl, sym, ap, ap₂, subst, _∙_}
-use mathlib.Core.Bool.{Bool, true, false, cond, _||_, false≢true}
+use mathlib.Core.Bool.{Bool, true, false, cond, false≢true}
 use mathlib.Core.List.{List, [], _∷_}
 use native.Mathlib.Omega.{arith}
-use borrow.Author.Tests.{eqb-true, eqb-false, eq-eqb, ne-eqb, le-leb, lt-leb, leb-true, leb-false}
+use borrow.Author.Tests.{eqb-false, eq-eqb, ne-eqb, le-leb, lt-leb, leb-true, leb-false}
 use lib.Dec.{eqb, leb, ltb}
 use lib.ListN.{length, getD, take, drop, length-take, length-drop}
 use lib.Seq.{drop-cons}
 use Rattle.vdp_state.specs.declared.state.Control.{Control}
 use Rattle.vdp_state.specs.declared.state.Dma.{Dma}
 use Rattle.vdp_state.specs.declared.state.State.{State}
-use Rattle.vdp_state.specs.declared.state.Step.{Step}
 use Rattle.vdp_state.specs.Cell.{wordAt, stored, storedIn, perform}
 use Rattle.vdp_state.specs.State.{Chip, chip, withControl}
+use Rattle.vdp_state.proofs.Bools.{by-cases}
 use Rattle.vdp_ports.specs.declared.access.Access.{Access}
 use Rattle.vdp_ports.specs.declared.access.Access.the-variants.{Write, Read, Nothing}
 use Rattle.vdp_ports.specs.declared.access.Memory.the-variants.{Vram, Cram, Vsram}
 use Rattle.vdp_ports.specs.Access.{access, wordNumber, written}
-use Rattle.vdp_ports.specs.Length.{register, idle}
-use Rattle.vdp_dma.specs.Run.{steps, ran}
+use Rattle.vdp_ports.specs.Length.{register}
+use Rattle.vdp_dma.specs.Run.{ran}
 use Rattle.vdp_dma.specs.Source.{workRam, wordFrom, wordsNext, nextSource}
 use Rattle.vdp_dma.specs.Transfer.{moved, holding, coloursIn, scrollsIn, atHand, Ready}
 use Rattle.vdp_dma.specs.Unit.{unitDma, unitControl, transferStep, unit}
@@ -48,28 +48,22 @@ module _ (cartridge : List ℕ) (size : length cartridge ≤ 4194304) where
   next-plain source h b e = simp (ne-eqb source 0xfffffe h) (omega arith)
 
   pub next-even : (source : ℕ) → source < 0x1000000 → source % 2 ≡ 0 → (nextSource source % 2 ≡ 0) × (nextSource source < 0x1000000)
-  next-even source b e = by-turn (eqb source 0xfffffe) refl
-    where
-      by-turn : (t : Bool) → eqb source 0xfffffe ≡ t → (nextSource source % 2 ≡ 0) × (nextSource source < 0x1000000)
-      by-turn true p = simp p (omega arith)
-      by-turn false p = simp p (omega arith)
+  next-even source b e = by-cases (eqb source 0xfffffe) (λ p. simp p (omega arith)) (λ p. simp p (omega arith))
 
   at-hand-next : (source n : ℕ) → source < 0x1000000 → source % 2 ≡ 0 → 1 < n → atHand cartridge source n ≡ true → atHand cartridge (nextSource source) (n - 1) ≡ true
-  at-hand-next source n b e more h = by-place (workRam source) refl
-    where
-      by-turn : 0xe00000 ≤ source → (t : Bool) → eqb source 0xfffffe ≡ t → atHand cartridge (nextSource source) (n - 1) ≡ true
-      by-turn p true q = simp q
-      by-turn p false q =
-          let far : source ≡ 0xfffffe → ⊥ = eqb-false source 0xfffffe q in
-          simp (le-leb 0xe00000 (nextSource source) (rw (next-plain source far b e) (omega arith)))
-
-      by-place : (t : Bool) → workRam source ≡ t → atHand cartridge (nextSource source) (n - 1) ≡ true
-      by-place true p = by-turn (leb-true 0xe00000 source p) (eqb source 0xfffffe) refl
-      by-place false p =
-          let low : source < 0xe00000 = leb-false 0xe00000 source p in
-          let fits : source + 2 * n ≤ length cartridge = leb-true (source + 2 * n) (length cartridge) (simp p at h) in
-          let plain : nextSource source ≡ source + 2 = next-plain source (omega arith) b e in
-          rw (plain, lt-leb 0xe00000 (source + 2) (omega arith), le-leb (source + 2 + 2 * (n - 1)) (length cartridge) (omega arith)) refl
+  at-hand-next source n b e more h =
+      by-cases (workRam source)
+      (λ p.
+      let high : 0xe00000 ≤ source = leb-true 0xe00000 source p in
+      by-cases (eqb source 0xfffffe) (λ q. simp q)
+      (λ q.
+      let far : source ≡ 0xfffffe → ⊥ = eqb-false source 0xfffffe q in
+      simp (le-leb 0xe00000 (nextSource source) (rw (next-plain source far b e) (omega arith)))))
+      (λ p.
+      let low : source < 0xe00000 = leb-false 0xe00000 source p in
+      let fits : source + 2 * n ≤ length cartridge = leb-true (source + 2 * n) (length cartridge) (simp p at h) in
+      let plain : nextSource source ≡ source + 2 = next-plain source (omega arith) b e in
+      rw (plain, lt-leb 0xe00000 (source + 2) (omega arith), le-leb (source + 2 + 2 * (n - 1)) (length cartridge) (omega arith)) refl)
 
   -- a unit leaves a transfer ready for the words that are left
   pub ready-next : (d : Dma) (n : ℕ) → 1 < n → Ready cartridge d n → Ready cartridge (unitDma d (nextSource (d .source))) (n - 1)
@@ -190,26 +184,21 @@ module _ (cartridge ram : List ℕ) (size : length cartridge ≤ 4194304) (ramSi
       record { some = h .some; most = h .most; made = m .made; ready = m .ready }
 
   pub part-moved : (n : ℕ) (c : Chip) → 0 < n → Ready cartridge (dma c) n → PartMoved n c (wordsNext cartridge ram (dma c .source) (record { 0 = n }))
-  part-moved n c more r = by-side (workRam (dma c .source)) refl
-    where
-      by-side : (b : Bool) → workRam (dma c .source) ≡ b → PartMoved n c (wordsNext cartridge ram (dma c .source) (record { 0 = n }))
-      by-side true e =
-          rw e (moved-part true n (dma c .source % 65536) c _ refl (λ x. r)
-          (part-of true (dma c .source) _ n more (r .even) e refl (λ f. absurd (false≢true (sym f)))))
-      by-side false e =
-          rw e (moved-part false n (dma c .source) c _ refl (λ x. r)
-          (part-of false (dma c .source) _ n more (r .even) e refl (λ f. leb-true (dma c .source + 2 * n) (length cartridge) (simp e at (r .lent)))))
+  part-moved n c more r =
+      by-cases (workRam (dma c .source))
+      (λ e.
+      rw e (moved-part true n (dma c .source % 65536) c _ refl (λ x. r)
+      (part-of true (dma c .source) _ n more (r .even) e refl (λ f. absurd (false≢true (sym f))))))
+      (λ e.
+      rw e (moved-part false n (dma c .source) c _ refl (λ x. r)
+      (part-of false (dma c .source) _ n more (r .even) e refl (λ f. leb-true (dma c .source + 2 * n) (length cartridge) (simp e at (r .lent))))))
 
 -- ---- a word moved, by what it changes
 module _ (s : State) (k k′ : Control) (colours scrolls : List ℕ) where
   stored-holding : (a : Access) (address w : ℕ) → withControl (stored (holding s k colours scrolls) (written a address w)) k′ ≡ holding s k′ (coloursIn colours (written a address w)) (scrollsIn scrolls (written a address w))
   stored-holding (Write Vram) address w = refl
   stored-holding (Write Cram) address w = refl
-  stored-holding (Write Vsram) address w = by-number (ltb (wordNumber address) 40) refl
-    where
-      by-number : (t : Bool) → ltb (wordNumber address) 40 ≡ t → withControl (stored (holding s k colours scrolls) (written (Write Vsram) address w)) k′ ≡ holding s k′ (coloursIn colours (written (Write Vsram) address w)) (scrollsIn scrolls (written (Write Vsram) address w))
-      by-number true e = simp e
-      by-number false e = simp e
+  stored-holding (Write Vsram) address w = by-cases (ltb (wordNumber address) 40) (λ e. simp e) (λ e. simp e)
   stored-holding (Read m) address w = refl
   stored-holding Nothing address w = refl
 

@@ -1,12 +1,13 @@
 -- The starred cases of document 01, Worked on the bench, as one table: what the definitions give, and what they should give.
 use Prim.Native.Nat.{ℕ}
 use mathlib.Core.Bool.{Bool, true, false, _&&_}
-use lib.Dec.{eqb}
 use mathlib.Core.List.{List, [], _∷_}
-use lib.ListN.{getD, set, take, replicate}
+use lib.ListN.{set, take, replicate}
 use Rattle.vdp_state.specs.declared.state.State.{State}
 use Rattle.vdp_state.specs.Answer.{Outcome}
 use Rattle.vdp_state.specs.Fresh.{fresh}
+use Rattle.vdp_state.specs.Good.{mostUnits}
+use Rattle.vdp_state.specs.Same.{same}
 use Rattle.vdp_state.specs.State.{Chip, chip}
 use Rattle.vdp_ports.specs.Control.{controlWrite}
 use Rattle.vdp_ports.specs.Data.{dataWrite}
@@ -33,7 +34,7 @@ abbrev pub written : ℕ → Chip → Chip
 written w c = left (dataWrite c w)
 
 abbrev pub ended : Chip → Chip
-ended c = left (run c [] zeros 65535)
+ended c = left (run c [] zeros mostUnits)
 
 -- auto-increment 2, and the two halves of a command: VRAM write, colour write, scroll write
 abbrev pub accessed : ℕ → ℕ → State
@@ -91,13 +92,6 @@ table =
     -- the copy: four AA
     ∷ gives (bytesAndAddress 5 (ended (chip copying (set zeros 0 0xaa)))) (4 ∷ 0xaa ∷ 0xaa ∷ 0xaa ∷ 0xaa ∷ 0x00 ∷ [])
     ∷ []
-
--- the same numbers in the same order
-abbrev pub same : List ℕ → List ℕ → Bool
-same [] [] = true
-same [] (y ∷ ys) = false
-same (x ∷ xs) [] = false
-same (x ∷ xs) (y ∷ ys) = eqb x y && same xs ys
 
 -- every case gives what it should
 abbrev pub allGiven : List Case → Bool

@@ -1,22 +1,16 @@
 -- A run: document 01, DMA ("A run takes a budget and reports the units made").
-use Prim.Native.Nat.{ℕ, zero, suc, _%_, min}
-use mathlib.Core.Bool.{Bool, cond, not, _||_, _&&_}
+use Prim.Native.Nat.{ℕ, _%_, min}
+use mathlib.Core.Bool.{not, _||_, _&&_}
 use mathlib.Core.List.{List, [], _∷_}
 use lib.Dec.{eqb, leb}
 use lib.ListN.{length}
 use Rattle.vdp_state.specs.declared.state.State.{State}
-use Rattle.vdp_state.specs.declared.state.Step.{Step}
-use Rattle.vdp_state.specs.Answer.{Test, gives, first, refused, done, Outcome, outcome}
-use Rattle.vdp_state.specs.Cell.{perform}
+use Rattle.vdp_state.specs.Answer.{Test, gives, first, Outcome, outcomeAt}
+use Rattle.vdp_state.specs.Cell.{steps}
 use Rattle.vdp_state.specs.State.{Chip}
 use Rattle.vdp_ports.specs.Refusal.{badState}
 use Rattle.vdp_dma.specs.Source.{allLent}
 use Rattle.vdp_dma.specs.Unit.{unit}
-
--- n steps one after the other, each decided by the chip as the last one left it
-abbrev pub steps : (Chip → Step) → ℕ → Chip → Chip
-steps step zero c = c
-steps step (suc n) c = steps step n (perform c (step c))
 
 -- "the units made, the smaller of budget and remaining"
 abbrev pub unitsMade : State → ℕ → ℕ
@@ -38,19 +32,12 @@ abbrev pub runTests : Chip → List ℕ → List ℕ → ℕ → List Test
 runTests c cartridge ram budget =
     badState (c .state) ∷ badMemory (c .vram) cartridge ram ∷ notLent (c .state) cartridge budget ∷ []
 
-abbrev pub runNumber : Chip → List ℕ → List ℕ → ℕ → ℕ
-runNumber c cartridge ram budget = first (runTests c cartridge ram budget)
-
 -- the chip after the run's units
 abbrev pub ran : List ℕ → List ℕ → ℕ → Chip → Chip
 ran cartridge ram n c = steps (unit cartridge ram) n c
 
--- a run that answers n: at 0 its units are reported and the chip is as they left it, else it is refused
-abbrev pub ranOutcome : ℕ → ℕ → Chip → Chip → Outcome
-ranOutcome n made before after =
-    cond (eqb n 0) (outcome (done made (after .state)) (after .vram)) (outcome (refused n (before .state)) (before .vram))
-
+-- a run reports its units
 abbrev pub run : Chip → List ℕ → List ℕ → ℕ → Outcome
 run c cartridge ram budget =
-    ranOutcome (runNumber c cartridge ram budget) (unitsMade (c .state) budget) c
+    outcomeAt (first (runTests c cartridge ram budget)) (unitsMade (c .state) budget) c
     (ran cartridge ram (unitsMade (c .state) budget) c)

@@ -1,4 +1,4 @@
--- The words of a part of memory, moved one after the other, and when n words are at hand.
+-- Serves proofs only: the words of a part of memory moved one after the other, and when n words are at hand.
 use Prim.Native.Nat.{ℕ, _+_, _*_, _%_, _≤_, _<_}
 use mathlib.Core.Path.{_≡_}
 use mathlib.Core.Bool.{Bool, true, _||_}

@@ -3,9 +3,8 @@ ghost use mathlib.Core.Path.{_≡_};
 ghost use mathlib.Core.Bool.{cond};
 ghost use Prim.Native.Nat.{_<_, _≤_};
 ghost use lib.ListN.{length, getD};
-ghost use Rattle.vdp_state.specs.Cell.{storedIn};
+ghost use Rattle.vdp_state.specs.Cell.{storedIn, steps};
 ghost use Rattle.vdp_state.specs.State.{chip, withControl};
-ghost use Rattle.vdp_dma.specs.Run.{steps};
 ghost use Rattle.vdp_dma.specs.Unit.{byteStored, inverted as invertedPlace, fillStep, copyStep};
 use crate::unit::inverted;
 use crate::unit::next_byte;
@@ -22,7 +21,8 @@ use vdp_state::state::Store;
 // The byte of one fill unit.
 fn fill_byte(address: u16, b: u8, vram: &mut [u8], writes: bool)
     requires { ⌜ length (now vram) ≡ 65536 ⌝ }
-    ensures { λ _. ⌜ now (vram .exit) ≡ storedIn (now (vram .entry)) (cond writes (byteStored (now (vram .entry)) (invertedPlace address) b) Store.Nothing) ⌝ }
+    ensures { λ _. ⌜ now (vram .exit)
+        ≡ storedIn (now (vram .entry)) (cond writes (byteStored (now (vram .entry)) (invertedPlace address) b) Store.Nothing) ⌝ }
 {
     let at = inverted(address) as usize;
     if writes {
@@ -32,7 +32,8 @@ fn fill_byte(address: u16, b: u8, vram: &mut [u8], writes: bool)
 
 // Makes n units of a fill; the control part after them. The loop carries the port alone: the rest follows from n.
 pub(crate) fn fill_units(s: State, vram: &mut [u8], n: Bytes) -> Control
-    requires { ⌜ (length (now vram) ≡ 65536) × (0 < s .control .dma .remaining) × (n .0 ≤ s .control .dma .remaining) ⌝ }
+    requires { ⌜ (length (now vram)
+        ≡ 65536) × (0 < s .control .dma .remaining) × (n .0 ≤ s .control .dma .remaining) ⌝ }
     ensures { λ r. ⌜ chip (withControl s r) (now (vram .exit)) ≡ steps fillStep (n .0) (chip s (now (vram .entry))) ⌝ }
 {
     let increment = s.registers[15];
@@ -53,7 +54,8 @@ pub(crate) fn fill_units(s: State, vram: &mut [u8], n: Bytes) -> Control
 // The byte of one copy unit.
 fn copy_byte(address: u16, source: u32, vram: &mut [u8])
     requires { ⌜ length (now vram) ≡ 65536 ⌝ }
-    ensures { λ _. ⌜ now (vram .exit) ≡ storedIn (now (vram .entry)) (byteStored (now (vram .entry)) address (getD (now (vram .entry)) source 0)) ⌝ }
+    ensures { λ _. ⌜ now (vram .exit)
+        ≡ storedIn (now (vram .entry)) (byteStored (now (vram .entry)) address (getD (now (vram .entry)) source 0)) ⌝ }
 {
     let b = byte_at(vram, source as usize);
     let at = address as usize;
@@ -62,7 +64,8 @@ fn copy_byte(address: u16, source: u32, vram: &mut [u8])
 
 // Makes n units of a copy; the control part after them. The loop carries the port and the source.
 pub(crate) fn copy_units(s: State, vram: &mut [u8], n: Bytes) -> Control
-    requires { ⌜ (length (now vram) ≡ 65536) × (0 < s .control .dma .remaining) × (n .0 ≤ s .control .dma .remaining) ⌝ }
+    requires { ⌜ (length (now vram)
+        ≡ 65536) × (0 < s .control .dma .remaining) × (n .0 ≤ s .control .dma .remaining) ⌝ }
     ensures { λ r. ⌜ chip (withControl s r) (now (vram .exit)) ≡ steps copyStep (n .0) (chip s (now (vram .entry))) ⌝ }
 {
     let increment = s.registers[15];

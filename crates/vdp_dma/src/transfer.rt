@@ -20,7 +20,9 @@ use vdp_state::state::Store;
 
 // Stores a moved word in the memory that it is for.
 fn store_word(store: Store, vram: &mut [u8], colours: &mut [u16], scrolls: &mut [u16])
-    ensures { λ _. ⌜ (now (vram .exit) ≡ storedIn (now (vram .entry)) store) × (now (colours .exit) ≡ coloursIn (now (colours .entry)) store) × (now (scrolls .exit) ≡ scrollsIn (now (scrolls .entry)) store) ⌝ }
+    ensures { λ _. ⌜ (now (vram .exit) ≡ storedIn (now (vram .entry)) store)
+        × (now (colours .exit) ≡ coloursIn (now (colours .entry)) store)
+        × (now (scrolls .exit) ≡ scrollsIn (now (scrolls .entry)) store) ⌝ }
 {
     match store {
         Store::Vram(_, _) => store_in(vram, store),
@@ -43,7 +45,9 @@ fn store_word(store: Store, vram: &mut [u8], colours: &mut [u16], scrolls: &mut 
 
 // Moves the words of a part. The loop carries what a word changes: the port, the source, colours and scroll words.
 fn move_part(s: State, vram: &mut [u8], part: &[u8]) -> State
-    requires { ⌜ (0 < s .control .dma .remaining) × (length (now part) / 2 ≤ s .control .dma .remaining) × (length (now part) / 2 < 4294967296) ⌝ }
+    requires { ⌜ (0 < s .control .dma .remaining)
+        × (length (now part) / 2 ≤ s .control .dma .remaining)
+        × (length (now part) / 2 < 4294967296) ⌝ }
     ensures { λ r. ⌜ chip r (now (vram .exit)) ≡ moved (now (part .entry)) (chip s (now (vram .entry))) ⌝ }
 {
     let increment = s.registers[15];
@@ -81,7 +85,8 @@ pub(crate) fn transfer_units<'a>(
 ) -> State
     requires { ⌜ (0 < n .0 → Ready (now cartridge) (s .control .dma) (n .0)) ⌝ }
     requires { ⌜ (length (now cartridge) ≤ 4194304) × (length (now ram) ≡ 65536) ⌝ }
-    ensures { λ r. ⌜ chip r (now (vram .exit)) ≡ ran (now (cartridge .entry)) (now (ram .entry)) (n .0) (chip s (now (vram .entry))) ⌝ }
+    ensures { λ r. ⌜ chip r (now (vram .exit))
+        ≡ ran (now (cartridge .entry)) (now (ram .entry)) (n .0) (chip s (now (vram .entry))) ⌝ }
 {
     let mut next = s;
     let mut left = n.0;

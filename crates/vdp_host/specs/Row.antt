@@ -23,15 +23,15 @@ abbrev pub rowNumber : List ℕ → ℕ → ℕ → List ℕ → ℕ
 rowNumber vram name row pixels = first (rowTests vram name row pixels)
 
 -- what the call leaves: its number and the row buffer, which a refused call leaves untouched
-pub record Shown : Type 0 where
+pub record RowOutcome : Type 0 where
   pub number : ℕ
   pub pixels : List ℕ
 
-abbrev pub shown : ℕ → List ℕ → Shown
-shown n pixels = record { number = n; pixels = pixels }
+abbrev pub rowOutcome : ℕ → List ℕ → RowOutcome
+rowOutcome n pixels = record { number = n; pixels = pixels }
 
-abbrev pub shownAt : ℕ → List ℕ → List ℕ → Shown
-shownAt n drawn before = shown n (cond (eqb n 0) drawn before)
+abbrev pub rowOutcomeAt : ℕ → List ℕ → List ℕ → RowOutcome
+rowOutcomeAt n drawn before = rowOutcome n (cond (eqb n 0) drawn before)
 
-abbrev pub patternRow : List ℕ → ℕ → ℕ → List ℕ → Shown
-patternRow vram name row pixels = shownAt (rowNumber vram name row pixels) (rowPixels vram name row) pixels
+abbrev pub patternRow : List ℕ → ℕ → ℕ → List ℕ → RowOutcome
+patternRow vram name row pixels = rowOutcomeAt (rowNumber vram name row pixels) (rowPixels vram name row) pixels

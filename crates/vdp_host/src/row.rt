@@ -2,7 +2,7 @@
 ghost use mathlib.Core.Path.{_≡_};
 ghost use lib.ListN.{length};
 ghost use Rattle.vdp_draw.specs.Pattern.{rowPixels};
-ghost use Rattle.vdp_host.specs.Row.{shown, patternRow};
+ghost use Rattle.vdp_host.specs.Row.{rowOutcome, patternRow};
 use vdp_draw::pattern::pattern_pixel;
 use vdp_ports::refusal::VRAM_SIZE;
 use vdp_state::answer::BAD_BUFFER;
@@ -29,7 +29,7 @@ fn draw_row(vram: &[u8], name: u16, row: u8, pixels: &mut [u8])
 // Writes the pixels of a pattern name's row, left to right, and answers a number.
 #[no_mangle]
 pub extern "C" fn kuthbareen_pattern_row(vram: &[u8], name: u16, row: u8, pixels: &mut [u8]) -> u8
-    ensures { λ r. ⌜ shown r (now (pixels .exit)) ≡ patternRow (now (vram .entry)) name row (now (pixels .entry)) ⌝ }
+    ensures { λ r. ⌜ rowOutcome r (now (pixels .exit)) ≡ patternRow (now (vram .entry)) name row (now (pixels .entry)) ⌝ }
 {
     if vram.len() != VRAM_SIZE {
         return BAD_BUFFER;

@@ -1,4 +1,4 @@
--- The structs of the thin functions as the laws of the crate `lent` take them: `State`, which is lent, `Answer`, with which a call by value answers, and `Given`, which a thin function returns.
+-- The structs of the thin functions as the laws of the crate `lent` take them: `State`, which is lent, `Answer`, with which a call by value answers, and `LentAnswer`, which a thin function returns.
 --     answer       the form of every thin function here: the answer's state goes back, and its number and result are given
 --     thin         its theorem, where the call by value ensures of its answer what the function ensures of what is given and of the state stored back: the two clauses compute to the same
 -- Assumes nothing.
@@ -25,8 +25,8 @@ use Rattle.vdp_state.proofs.state.State as T
 use Rattle.vdp_state.proofs.state.State.Laws as T′
 use Rattle.vdp_state.proofs.answer.Answer as S
 use Rattle.vdp_state.proofs.answer.Answer.Laws as S′
-use Rattle.vdp_lent.proofs.given.Given as B
-use Rattle.vdp_lent.proofs.given.Given.Laws as B′
+use Rattle.vdp_lent.proofs.answer.LentAnswer as B
+use Rattle.vdp_lent.proofs.answer.LentAnswer.Laws as B′
 use Rattle.lent.proofs.Many.{from-at}
 use Rattle.lent.proofs.Datum.{Datum, Taken, a-struct}
 use Rattle.lent.proofs.Lent as Law

@@ -1,7 +1,7 @@
 // The calls in the form where the caller lends the state (document 01, Ports, last part), under names that C can call.
 // Each copies the state out, makes the call by value and stores the state back; keep that form of the bodies, which
 // the proofs of the crate `lent` are about.
+pub mod answer;
 pub mod fresh;
-pub mod given;
 pub mod ports;
 pub mod run;

@@ -1,14 +1,13 @@
 // The port accesses and the new frame over a state that is lent (document 01, Ports).
 ghost use mathlib.Core.Path.{_≡_};
-ghost use Prim.Native.Nat.{_*_};
 ghost use Rattle.vdp_state.specs.Answer.{outcome};
 ghost use Rattle.vdp_state.specs.State.{chip};
-ghost use Rattle.vdp_ports.specs.Control.{controlWrite};
+ghost use Rattle.vdp_ports.specs.Control.{byteWord, controlWrite};
 ghost use Rattle.vdp_ports.specs.Data.{dataWrite, dataRead};
 ghost use Rattle.vdp_ports.specs.Frame.{newFrame};
 ghost use Rattle.vdp_ports.specs.Status.{statusRead};
-ghost use Rattle.vdp_lent.specs.Given.{withState};
-use crate::given::Given;
+ghost use Rattle.vdp_lent.specs.Answer.{withState};
+use crate::answer::LentAnswer;
 use vdp_ports::control::control_write;
 use vdp_ports::control::control_write_byte;
 use vdp_ports::data::data_read;
@@ -20,12 +19,12 @@ use vdp_state::state::State;
 
 // Writes a word to the control port.
 #[no_mangle]
-pub extern "C" fn kuthbareen_control_write(s: &mut State, w: u16) -> Given
+pub extern "C" fn kuthbareen_control_write(s: &mut State, w: u16) -> LentAnswer
     ensures { λ r. ⌜ withState r (now (s .exit)) ≡ controlWrite (now (s .entry)) w ⌝ }
 {
     let answer = control_write(*s, w);
     *s = answer.state;
-    Given {
+    LentAnswer {
         number: answer.number,
         result: answer.result,
     }
@@ -33,12 +32,12 @@ pub extern "C" fn kuthbareen_control_write(s: &mut State, w: u16) -> Given
 
 // Writes a byte to the control port: the byte stands in both halves of the word.
 #[no_mangle]
-pub extern "C" fn kuthbareen_control_write_byte(s: &mut State, b: u8) -> Given
-    ensures { λ r. ⌜ withState r (now (s .exit)) ≡ controlWrite (now (s .entry)) (257 * b) ⌝ }
+pub extern "C" fn kuthbareen_control_write_byte(s: &mut State, b: u8) -> LentAnswer
+    ensures { λ r. ⌜ withState r (now (s .exit)) ≡ controlWrite (now (s .entry)) (byteWord b) ⌝ }
 {
     let answer = control_write_byte(*s, b);
     *s = answer.state;
-    Given {
+    LentAnswer {
         number: answer.number,
         result: answer.result,
     }
@@ -46,12 +45,13 @@ pub extern "C" fn kuthbareen_control_write_byte(s: &mut State, b: u8) -> Given
 
 // Writes a word to the data port.
 #[no_mangle]
-pub extern "C" fn kuthbareen_data_write(s: &mut State, vram: &mut [u8], w: u16) -> Given
-    ensures { λ r. ⌜ outcome (withState r (now (s .exit))) (now (vram .exit)) ≡ dataWrite (chip (now (s .entry)) (now (vram .entry))) w ⌝ }
+pub extern "C" fn kuthbareen_data_write(s: &mut State, vram: &mut [u8], w: u16) -> LentAnswer
+    ensures { λ r. ⌜ outcome (withState r (now (s .exit))) (now (vram .exit))
+        ≡ dataWrite (chip (now (s .entry)) (now (vram .entry))) w ⌝ }
 {
     let answer = data_write(*s, vram, w);
     *s = answer.state;
-    Given {
+    LentAnswer {
         number: answer.number,
         result: answer.result,
     }
@@ -59,12 +59,13 @@ pub extern "C" fn kuthbareen_data_write(s: &mut State, vram: &mut [u8], w: u16) 
 
 // Writes a byte to the data port: the byte stands in both halves of the word.
 #[no_mangle]
-pub extern "C" fn kuthbareen_data_write_byte(s: &mut State, vram: &mut [u8], b: u8) -> Given
-    ensures { λ r. ⌜ outcome (withState r (now (s .exit))) (now (vram .exit)) ≡ dataWrite (chip (now (s .entry)) (now (vram .entry))) (257 * b) ⌝ }
+pub extern "C" fn kuthbareen_data_write_byte(s: &mut State, vram: &mut [u8], b: u8) -> LentAnswer
+    ensures { λ r. ⌜ outcome (withState r (now (s .exit))) (now (vram .exit))
+        ≡ dataWrite (chip (now (s .entry)) (now (vram .entry))) (byteWord b) ⌝ }
 {
     let answer = data_write_byte(*s, vram, b);
     *s = answer.state;
-    Given {
+    LentAnswer {
         number: answer.number,
         result: answer.result,
     }
@@ -72,12 +73,12 @@ pub extern "C" fn kuthbareen_data_write_byte(s: &mut State, vram: &mut [u8], b: 
 
 // Reads a word from the data port.
 #[no_mangle]
-pub extern "C" fn kuthbareen_data_read(s: &mut State, vram: &[u8]) -> Given
+pub extern "C" fn kuthbareen_data_read(s: &mut State, vram: &[u8]) -> LentAnswer
     ensures { λ r. ⌜ withState r (now (s .exit)) ≡ dataRead (chip (now (s .entry)) (now (vram .entry))) ⌝ }
 {
     let answer = data_read(*s, vram);
     *s = answer.state;
-    Given {
+    LentAnswer {
         number: answer.number,
         result: answer.result,
     }
@@ -85,12 +86,12 @@ pub extern "C" fn kuthbareen_data_read(s: &mut State, vram: &[u8]) -> Given
 
 // Reads the status word.
 #[no_mangle]
-pub extern "C" fn kuthbareen_status_read(s: &mut State) -> Given
+pub extern "C" fn kuthbareen_status_read(s: &mut State) -> LentAnswer
     ensures { λ r. ⌜ withState r (now (s .exit)) ≡ statusRead (now (s .entry)) ⌝ }
 {
     let answer = status_read(*s);
     *s = answer.state;
-    Given {
+    LentAnswer {
         number: answer.number,
         result: answer.result,
     }
@@ -98,12 +99,12 @@ pub extern "C" fn kuthbareen_status_read(s: &mut State) -> Given
 
 // Begins a new frame.
 #[no_mangle]
-pub extern "C" fn kuthbareen_new_frame(s: &mut State) -> Given
+pub extern "C" fn kuthbareen_new_frame(s: &mut State) -> LentAnswer
     ensures { λ r. ⌜ withState r (now (s .exit)) ≡ newFrame (now (s .entry)) ⌝ }
 {
     let answer = new_frame(*s);
     *s = answer.state;
-    Given {
+    LentAnswer {
         number: answer.number,
         result: answer.result,
     }

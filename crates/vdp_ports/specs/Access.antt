@@ -1,10 +1,8 @@
 -- Which memory a data access touches: document 01, Ports ("Data write, by CD3-CD0 (CD4 ignored)"); notes s7.
 use Prim.Native.Nat.{ℕ, _+_, _-_, _*_, _/_, _%_}
 use mathlib.Core.Bool.{cond}
-use mathlib.Core.List.{List}
 use lib.Dec.{eqb, ltb}
 use lib.ListN.{getD}
-use Rattle.vdp_state.specs.declared.state.State.{State}
 use Rattle.vdp_state.specs.declared.state.Store.{Store}
 use Rattle.vdp_state.specs.declared.state.Store.the-variants.{Nothing as NoStore, Vram as VramWord, Cram as Colour, Vsram as Scroll}
 use Rattle.vdp_state.specs.Cell.{wordAt}

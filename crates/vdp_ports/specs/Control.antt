@@ -18,6 +18,10 @@ use Rattle.vdp_ports.specs.Refusal.{badState, busy}
 abbrev pub port : ℕ → ℕ → Bool → Port
 port address code pending = record { address = address; code = code; pending = pending }
 
+-- "A byte write of b is the word 257 x b."
+abbrev pub byteWord : ℕ → ℕ
+byteWord b = 257 * b
+
 -- a waiting fill is dropped
 abbrev pub fillDropped : Dma → Dma
 fillDropped d = cond (eqb (d .kind) 1) idle d
@@ -75,8 +79,5 @@ controlStep s w =
 abbrev pub controlTests : State → List Test
 controlTests s = badState s ∷ busy s ∷ []
 
-abbrev pub controlNumber : State → ℕ
-controlNumber s = first (controlTests s)
-
 abbrev pub controlWrite : State → ℕ → Answer
-controlWrite s w = answered (controlNumber s) s (controlStep s w) 0
+controlWrite s w = answered (first (controlTests s)) s (controlStep s w) 0

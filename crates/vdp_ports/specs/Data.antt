@@ -1,5 +1,5 @@
 -- The data port: document 01, Ports; notes s7 to s10.
-use Prim.Native.Nat.{ℕ, _+_, _*_, _/_, _%_}
+use Prim.Native.Nat.{ℕ, _+_, _/_, _%_}
 use mathlib.Core.Bool.{false, cond}
 use mathlib.Core.List.{List, [], _∷_}
 use lib.Dec.{eqb}
@@ -48,11 +48,8 @@ dataWord c = readWord (access (c .state .control .port .code)) c (c .state .cont
 abbrev pub dataTests : Chip → List Test
 dataTests c = badState (c .state) ∷ badVram (c .vram) ∷ busy (c .state) ∷ []
 
-abbrev pub dataNumber : Chip → ℕ
-dataNumber c = first (dataTests c)
-
 abbrev pub dataWrite : Chip → ℕ → Outcome
-dataWrite c w = served (dataNumber c) c (dataWriteStep (c .state) w) 0
+dataWrite c w = served (first (dataTests c)) c (dataWriteStep (c .state) w) 0
 
 abbrev pub dataRead : Chip → Answer
-dataRead c = answered (dataNumber c) (c .state) (dataReadStep (c .state)) (dataWord c)
+dataRead c = answered (first (dataTests c)) (c .state) (dataReadStep (c .state)) (dataWord c)

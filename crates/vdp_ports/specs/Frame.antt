@@ -1,5 +1,4 @@
 -- A new frame: document 01, Ports ("A new-frame call clears overflow and collision").
-use Prim.Native.Nat.{ℕ}
 use mathlib.Core.Bool.{false}
 use mathlib.Core.List.{List, [], _∷_}
 use Rattle.vdp_state.specs.declared.answer.Answer.{Answer}
@@ -16,8 +15,5 @@ frameStep s = record { control = withFlags (s .control) (record { overflow = fal
 abbrev pub frameTests : State → List Test
 frameTests s = badState s ∷ []
 
-abbrev pub frameNumber : State → ℕ
-frameNumber s = first (frameTests s)
-
 abbrev pub newFrame : State → Answer
-newFrame s = answered (frameNumber s) s (frameStep s) 0
+newFrame s = answered (first (frameTests s)) s (frameStep s) 0

@@ -1,5 +1,5 @@
 -- DMA lengths: document 01, DMA; notes s11. A transfer counts words, a fill or a copy counts bytes.
-use Prim.Native.Nat.{ℕ, _+_, _*_, _%_}
+use Prim.Native.Nat.{ℕ, _+_, _*_}
 use mathlib.Core.Bool.{cond}
 use lib.Dec.{eqb}
 use lib.ListN.{getD}

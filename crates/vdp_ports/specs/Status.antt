@@ -27,8 +27,5 @@ statusStep s = record { control = withPort (s .control) (settled (s .control .po
 abbrev pub statusTests : State → List Test
 statusTests s = badState s ∷ busyAtStatus s ∷ []
 
-abbrev pub statusNumber : State → ℕ
-statusNumber s = first (statusTests s)
-
 abbrev pub statusRead : State → Answer
-statusRead s = answered (statusNumber s) s (statusStep s) (statusWord s)
+statusRead s = answered (first (statusTests s)) s (statusStep s) (statusWord s)

@@ -1,7 +1,8 @@
 // The control port (document 01, Ports and DMA; notes s7 and s11): what a control word does.
 ghost use mathlib.Core.Path.{_≡_};
+ghost use Rattle.vdp_state.specs.Answer.{first};
 ghost use Prim.Native.Nat.{_+_, _*_};
-ghost use Rattle.vdp_ports.specs.Control.{fillDropped, registerWrite, firstHalf, secondHalf, dmaStarted, dmaAfter, controlStep, controlNumber, controlWrite};
+ghost use Rattle.vdp_ports.specs.Control.{byteWord, fillDropped, registerWrite, firstHalf, secondHalf, dmaStarted, dmaAfter, controlStep, controlTests, controlWrite};
 use crate::length::byte_length;
 use crate::length::copy;
 use crate::length::fill_waiting;
@@ -141,7 +142,7 @@ pub fn control_step(s: State, w: u16) -> Step
 
 // The number that a control write answers.
 pub fn control_number(s: State) -> u8
-    ensures { λ r. ⌜ r ≡ controlNumber s ⌝ }
+    ensures { λ r. ⌜ r ≡ first (controlTests s) ⌝ }
 {
     if !good(s) {
         return BAD_STATE;
@@ -158,7 +159,7 @@ pub fn control_write(s: State, w: u16) -> Answer
 
 // Writes a byte to the control port: the byte stands in both halves of the word.
 pub fn control_write_byte(s: State, b: u8) -> Answer
-    ensures { λ r. ⌜ r ≡ controlWrite s (257 * b) ⌝ }
+    ensures { λ r. ⌜ r ≡ controlWrite s (byteWord b) ⌝ }
 {
     control_write(s, 257 * (b as u16))
 }

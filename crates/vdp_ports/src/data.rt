@@ -1,9 +1,9 @@
 // The data port (document 01, Ports; notes s7 to s10): what a data write stores and a data read gives.
 ghost use mathlib.Core.Path.{_≡_};
-ghost use Prim.Native.Nat.{_*_};
 ghost use Rattle.vdp_state.specs.State.{chip};
-ghost use Rattle.vdp_state.specs.Answer.{outcome};
-ghost use Rattle.vdp_ports.specs.Data.{advanced as advancedPort, portAfter, fillBegun, dataWriteStep, dataReadStep, dataWord, dataNumber, dataWrite, dataRead};
+ghost use Rattle.vdp_state.specs.Answer.{first, outcome};
+ghost use Rattle.vdp_ports.specs.Control.{byteWord};
+ghost use Rattle.vdp_ports.specs.Data.{advanced as advancedPort, portAfter, fillBegun, dataWriteStep, dataReadStep, dataWord, dataTests, dataWrite, dataRead};
 use crate::access::access_of;
 use crate::access::read_word;
 use crate::access::written;
@@ -95,7 +95,7 @@ pub fn data_word(s: State, vram: &[u8]) -> u16
 
 // The number that a data access answers.
 pub fn data_number(s: State, vram: &[u8]) -> u8
-    ensures { λ r. ⌜ r ≡ dataNumber (chip s (now (vram .entry))) ⌝ }
+    ensures { λ r. ⌜ r ≡ first (dataTests (chip s (now (vram .entry)))) ⌝ }
 {
     if !good(s) {
         return BAD_STATE;
@@ -116,7 +116,7 @@ pub fn data_write(s: State, vram: &mut [u8], w: u16) -> Answer
 
 // Writes a byte to the data port: the byte stands in both halves of the word.
 pub fn data_write_byte(s: State, vram: &mut [u8], b: u8) -> Answer
-    ensures { λ r. ⌜ outcome r (now (vram .exit)) ≡ dataWrite (chip s (now (vram .entry))) (257 * b) ⌝ }
+    ensures { λ r. ⌜ outcome r (now (vram .exit)) ≡ dataWrite (chip s (now (vram .entry))) (byteWord b) ⌝ }
 {
     data_write(s, vram, 257 * (b as u16))
 }

@@ -1,6 +1,7 @@
 // A new frame (document 01, Ports).
 ghost use mathlib.Core.Path.{_≡_};
-ghost use Rattle.vdp_ports.specs.Frame.{frameStep, frameNumber, newFrame};
+ghost use Rattle.vdp_state.specs.Answer.{first};
+ghost use Rattle.vdp_ports.specs.Frame.{frameStep, frameTests, newFrame};
 use vdp_state::answer::Answer;
 use vdp_state::answer::BAD_STATE;
 use vdp_state::answer::DONE;
@@ -29,7 +30,7 @@ pub fn frame_step(s: State) -> Step
 
 // The number that a new frame answers.
 pub fn frame_number(s: State) -> u8
-    ensures { λ r. ⌜ r ≡ frameNumber s ⌝ }
+    ensures { λ r. ⌜ r ≡ first (frameTests s) ⌝ }
 {
     if good(s) { DONE } else { BAD_STATE }
 }

@@ -1,6 +1,7 @@
 // The status word (document 01, Ports).
 ghost use mathlib.Core.Path.{_≡_};
-ghost use Rattle.vdp_ports.specs.Status.{flag as flagged, statusWord, statusStep, statusNumber, statusRead};
+ghost use Rattle.vdp_state.specs.Answer.{first};
+ghost use Rattle.vdp_ports.specs.Status.{flag as flagged, statusWord, statusStep, statusTests, statusRead};
 use crate::refusal::filling;
 use crate::refusal::transferring;
 use vdp_state::answer::Answer;
@@ -48,7 +49,7 @@ pub fn status_step(s: State) -> Step
 
 // The number that a status read answers.
 pub fn status_number(s: State) -> u8
-    ensures { λ r. ⌜ r ≡ statusNumber s ⌝ }
+    ensures { λ r. ⌜ r ≡ first (statusTests s) ⌝ }
 {
     if !good(s) {
         return BAD_STATE;

@@ -1,21 +1,14 @@
 -- A loop that tests the elements of a list one after the other: at index i, what has passed so far and what is left to test,
 -- `all p (drop i l)`, decide.
 use Prim.Native.Nat.{ℕ, _+_, _<_, _≤_}
-use mathlib.Core.Path.{_≡_, refl, sym, ap, _∙_}
-use mathlib.Core.Bool.{Bool, true, false, _&&_}
+use mathlib.Core.Path.{_≡_, sym, ap, _∙_}
+use mathlib.Core.Bool.{Bool, _&&_}
 use mathlib.Core.List.{List}
 use native.Mathlib.Numerals.{add-one}
 use lib.ListN.{length, getD, drop, drop-of-length-le}
 use lib.Seq.{drop-cons}
 use Rattle.vdp_state.specs.Good.{all}
-
-and-assoc : (a b c : Bool) → (a && b && c) ≡ (a && (b && c))
-and-assoc true b c = refl
-and-assoc false b c = refl
-
-and-true : (a : Bool) → (a && true) ≡ a
-and-true true = refl
-and-true false = refl
+use Rattle.vdp_state.proofs.Bools.{and-true, and-assoc}
 
 module _ (p : ℕ → Bool) (l : List ℕ) (i : ℕ) (ok : Bool) where
   -- the element at i is tested

@@ -5,7 +5,7 @@
 --     undoing-good       the step that undoes a step in range is in range
 use Prim.Native.Nat.{ℕ, zero, suc, _+_, _/_, _%_, _<_}
 use mathlib.Core.Path.{_≡_, refl, ap, _∙_}
-use mathlib.Core.Bool.{Bool, true, false, _&&_, false≢true}
+use mathlib.Core.Bool.{Bool, true, _&&_}
 use mathlib.Core.List.{List, [], _∷_}
 use native.Mathlib.Omega.{arith}
 use borrow.Author.Tests.{lt-ltb, ltb-true}
@@ -17,30 +17,19 @@ use Rattle.vdp_state.specs.declared.state.State.{State}
 use Rattle.vdp_state.specs.declared.state.Step.{Step}
 use Rattle.vdp_state.specs.declared.state.Store.{Store}
 use Rattle.vdp_state.specs.declared.state.Store.the-variants.{Nothing, Vram, Cram, Vsram, Register}
-use Rattle.vdp_state.specs.Cell.{wordAt, putWord, stored, storedIn, perform, present, undoing}
+use Rattle.vdp_state.specs.Cell.{wordAt, putWord, perform, present, undoing}
 use Rattle.vdp_state.specs.Fresh.{fresh}
 use Rattle.vdp_state.specs.Good.{all, isColour, isScroll, goodControl, good}
-use Rattle.vdp_state.specs.Range.{Bytes, GoodControl, GoodChip, goodStore, GoodStep}
+use Rattle.vdp_state.specs.Range.{AllBytes, GoodControl, GoodChip, goodStore, GoodStep}
 use Rattle.vdp_state.specs.State.{Chip, chip}
+use Rattle.vdp_state.proofs.Bools.{both, both-left, both-right}
 
 pub fresh-good : (pal : Bool) → good (fresh pal) ≡ true
 unfolding good fresh Rattle.vdp_state.specs.Colour.colourWord
 fresh-good pal = refl
 
--- ---- both parts of a passed test
-pub both-left : (a b : Bool) → a && b ≡ true → a ≡ true
-both-left true b e = refl
-both-left false b e = e
-
-pub both-right : (a b : Bool) → a && b ≡ true → b ≡ true
-both-right true b e = e
-both-right false b e = absurd (false≢true e)
-
-pub both : {a b : Bool} → a ≡ true → b ≡ true → a && b ≡ true
-both {a} {b} p q = simp (p, q)
-
 -- ---- a word and its two bytes
-module _ (m : List ℕ) (place : ℕ) (bytes : Bytes m) where
+module _ (m : List ℕ) (place : ℕ) (bytes : AllBytes m) where
   word-high : wordAt m place / 256 ≡ getD m place 0
   word-high = omega (arith, bytes (place + 1))
 
@@ -58,7 +47,7 @@ module _ (m : List ℕ) (place : ℕ) (bytes : Bytes m) where
       (rw (set-getD, set-getD) refl))
 
 -- by the store's cell
-undone-at : (c : Chip) (k : Control) (x : Store) → Bytes (c .vram)
+undone-at : (c : Chip) (k : Control) (x : Store) → AllBytes (c .vram)
     → let t : Step = record { control = k; store = x } in perform (perform c t) (undoing c t) ≡ c
 unfolding perform undoing
 undone-at c k Nothing bytes = refl
@@ -67,7 +56,7 @@ undone-at c k (Cram i w) bytes = simp (set-set, set-getD)
 undone-at c k (Vsram i w) bytes = simp (set-set, set-getD)
 undone-at c k (Register i b) bytes = simp (set-set, set-getD)
 
-pub undone : (c : Chip) (t : Step) → Bytes (c .vram) → perform (perform c t) (undoing c t) ≡ c
+pub undone : (c : Chip) (t : Step) → AllBytes (c .vram) → perform (perform c t) (undoing c t) ≡ c
 undone c t bytes = undone-at c (t .control) (t .store) bytes
 
 colour-zero : isColour 0 ≡ true
@@ -75,7 +64,7 @@ unfolding Rattle.vdp_state.specs.Colour.colourWord
 colour-zero = refl
 
 -- ---- what a store keeps
-pub bytes-set : (m : List ℕ) (i b : ℕ) → Bytes m → b < 256 → Bytes (set m i b)
+pub bytes-set : (m : List ℕ) (i b : ℕ) → AllBytes m → b < 256 → AllBytes (set m i b)
 bytes-set [] i b bytes h j = bytes j
 bytes-set (x ∷ m) zero b bytes h zero = h
 bytes-set (x ∷ m) zero b bytes h (suc j) = bytes (suc j)
@@ -92,7 +81,7 @@ all-at p [] i z e = z
 all-at p (x ∷ l) zero z e = both-left (p x) (all p l) e
 all-at p (x ∷ l) (suc i) z e = all-at p l i z (both-right (p x) (all p l) e)
 
-pub put-word-bytes : (m : List ℕ) (place w : ℕ) → Bytes m → w < 65536 → Bytes (putWord m place w)
+pub put-word-bytes : (m : List ℕ) (place w : ℕ) → AllBytes m → w < 65536 → AllBytes (putWord m place w)
 put-word-bytes m place w bytes h =
     bytes-set (set m place (w / 256)) (place + 1) (w % 256) (bytes-set m place (w / 256) bytes (omega arith)) (omega arith)
 
@@ -120,7 +109,7 @@ module _ (s : State) where
 abbrev vram-place : ℕ → Bool
 vram-place place = eqb (place % 2) 0 && ltb place 65536
 
-chip-of : (c : Chip) → all isColour (c .state .cram) ≡ true → all isScroll (c .state .vsram) ≡ true → GoodControl (c .state .control) → Bytes (c .state .registers) → Bytes (c .vram) → length (c .vram) ≡ 65536 → GoodChip c
+chip-of : (c : Chip) → all isColour (c .state .cram) ≡ true → all isScroll (c .state .vsram) ≡ true → GoodControl (c .state .control) → AllBytes (c .state .registers) → AllBytes (c .vram) → length (c .vram) ≡ 65536 → GoodChip c
 chip-of c p q h r m n = record { good = good-of (c .state) p q (h .good); control = h; registers = r; vram = m; size = n }
 
 -- ---- performing
@@ -157,3 +146,9 @@ present-good c (Register i b) g e = both (both-left (ltb i 24) (ltb b 256) e) (l
 pub undoing-good : (c : Chip) (t : Step) → GoodChip c → GoodStep t → GoodStep (undoing c t)
 unfolding undoing
 undoing-good c t g h = record { control = g .control; store = present-good c (t .store) g (h .store) }
+
+-- ---- steps one after the other
+-- each of n steps is in range where it is made
+abbrev pub StepsGood : (Chip → Step) → ℕ → Chip → Type 0
+StepsGood step zero c = Unit {0}
+StepsGood step (suc n) c = GoodStep (step c) × StepsGood step n (perform c (step c))

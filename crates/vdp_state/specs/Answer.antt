@@ -6,7 +6,7 @@ use lib.Dec.{eqb}
 use Rattle.vdp_state.specs.declared.state.State.{State}
 use Rattle.vdp_state.specs.declared.state.Step.{Step}
 use Rattle.vdp_state.specs.declared.answer.Answer.{Answer}
-use Rattle.vdp_state.specs.Cell.{after, storedIn}
+use Rattle.vdp_state.specs.Cell.{after, perform}
 use Rattle.vdp_state.specs.State.{Chip}
 
 -- "Order: 1, 2, 3, 10, 8, 5, 4, 9, 7, 6"
@@ -53,5 +53,10 @@ pub record Outcome : Type 0 where
 abbrev pub outcome : Answer → List ℕ → Outcome
 outcome a m = record { answer = a; vram = m }
 
+-- a call that answers n: at 0 it leaves its result and the chip as it made it, else it is refused and nothing changes
+abbrev pub outcomeAt : ℕ → ℕ → Chip → Chip → Outcome
+outcomeAt n result before made =
+    cond (eqb n 0) (outcome (done result (made .state)) (made .vram)) (outcome (refused n (before .state)) (before .vram))
+
 abbrev pub served : ℕ → Chip → Step → ℕ → Outcome
-served n c t r = outcome (answered n (c .state) t r) (cond (eqb n 0) (storedIn (c .vram) (t .store)) (c .vram))
+served n c t result = outcomeAt n result c (perform c t)

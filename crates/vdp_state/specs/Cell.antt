@@ -1,5 +1,5 @@
--- Cells: what a step does to the chip, and the step that undoes it (document 01, The tape).
-use Prim.Native.Nat.{ℕ, _+_, _*_, _/_, _%_}
+-- Cells: what a step does to the chip, the step that undoes it, and steps one after the other (document 01, The tape, DMA).
+use Prim.Native.Nat.{ℕ, zero, suc, _+_, _*_, _/_, _%_}
 use mathlib.Core.List.{List}
 use lib.ListN.{getD, set}
 use Rattle.vdp_state.specs.declared.state.State.{State}
@@ -48,3 +48,15 @@ present c (Register i b) = Register i (getD (c .state .registers) i 0)
 -- the step that undoes a step: the control part as it is now, and the old content of the cell
 unfoldable pub undoing : Chip → Step → Step
 undoing c t = record { control = c .state .control; store = present c (t .store) }
+
+-- f, n times: a run, a recorded run and the book's pages are iterations
+abbrev pub iterate : {A : Type 0} → (A → A) → ℕ → A → A
+iterate f zero x = x
+iterate f (suc n) x = iterate f n (f x)
+
+-- n steps, each decided by the chip as the last one left it
+abbrev pub made : (Chip → Step) → Chip → Chip
+made step c = perform c (step c)
+
+abbrev pub steps : (Chip → Step) → ℕ → Chip → Chip
+steps step n c = iterate (made step) n c

@@ -1,9 +1,8 @@
 -- GOOD: document 01, The state.
 use Prim.Native.Nat.{ℕ, _%_, _^_}
-use mathlib.Core.Bool.{Bool, true, false, _&&_, _||_, Bool·beq}
+use mathlib.Core.Bool.{Bool, true, _&&_, _||_, Bool·beq}
 use mathlib.Core.List.{List, [], _∷_}
 use lib.Dec.{leb, ltb, eqb}
-use Rattle.vdp_state.specs.declared.state.Port.{Port}
 use Rattle.vdp_state.specs.declared.state.Dma.{Dma}
 use Rattle.vdp_state.specs.declared.state.Control.{Control}
 use Rattle.vdp_state.specs.declared.state.State.{State}

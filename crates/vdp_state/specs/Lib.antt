@@ -4,4 +4,5 @@ pub mod Colour
 pub mod Fresh
 pub mod Good
 pub mod Range
+pub mod Same
 pub mod State

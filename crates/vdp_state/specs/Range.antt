@@ -13,8 +13,8 @@ use Rattle.vdp_state.specs.Good.{isColour, isScroll, goodControl, good}
 use Rattle.vdp_state.specs.State.{Chip}
 
 -- every element is a byte
-abbrev pub Bytes : List ℕ → Type 0
-Bytes m = (i : ℕ) → getD m i 0 < 256
+abbrev pub AllBytes : List ℕ → Type 0
+AllBytes m = (i : ℕ) → getD m i 0 < 256
 
 -- a control part that GOOD admits, with an address of 16 bits and a fill byte of 8
 pub record GoodControl (c : Control) : Type 0 where
@@ -26,8 +26,8 @@ pub record GoodControl (c : Control) : Type 0 where
 pub record GoodChip (c : Chip) : Type 0 where
   pub good : good (c .state) ≡ true
   pub control : GoodControl (c .state .control)
-  pub registers : Bytes (c .state .registers)
-  pub vram : Bytes (c .vram)
+  pub registers : AllBytes (c .state .registers)
+  pub vram : AllBytes (c .vram)
   pub size : length (c .vram) ≡ 65536
 
 -- document 01, The tape: "place (2, even for VRAM, else the index)", and the contents that GOOD admits there

@@ -1,6 +1,5 @@
 // The fresh state (document 01, The state).
 ghost use mathlib.Core.Path.{_≡_};
-ghost use mathlib.Core.Bool.{true};
 ghost use Rattle.vdp_state.specs.Fresh.{fresh as freshState};
 use crate::state::Control;
 use crate::state::Dma;

@@ -2,25 +2,26 @@
 -- other from the present, give the pages.
 use Prim.Native.Nat.{ℕ, zero, suc, _+_, _-_, _*_, _/_, _<_, _≤_}
 use mathlib.Core.Path.{_≡_, refl, sym, ap, ap₂, subst, _∙_}
-use mathlib.Core.Bool.{Bool, true, false, cond, not, _&&_, _||_}
+use mathlib.Core.Bool.{true}
 use mathlib.Core.List.{List, [], _∷_}
 use native.Mathlib.Omega.{arith}
-use borrow.Author.Tests.{eqb-true, ltb-true, ltb-false, lt-ltb, le-ltb}
+use borrow.Author.Tests.{eqb-true, ltb-false}
 use lib.Dec.{eqb, ltb}
 use lib.ListN.{length, getD, drop}
 use lib.Seq.{sets, length-sets}
-use Rattle.vdp_state.specs.declared.state.State.{State}
 use Rattle.vdp_state.specs.declared.state.Step.{Step}
-use Rattle.vdp_state.specs.Answer.{Test, first}
+use Rattle.vdp_state.specs.Answer.{first}
 use Rattle.vdp_state.specs.Cell.{perform, undoing}
 use Rattle.vdp_state.specs.Range.{GoodChip, GoodStep}
 use Rattle.vdp_state.specs.State.{Chip, chip}
-use Rattle.vdp_state.proofs.Laws.{undone, performed-good, undoing-good, both}
-use Rattle.vdp_tape.specs.Book.{Call, Book, newBook, turned, turnedBack, Entry, entry, enterBy, enterBack, enter}
-use Rattle.vdp_tape.specs.Demand.{Seen, seen, seenInBook, serve}
-use Rattle.vdp_tape.specs.Number.{capacity, recordedNumber, withTape}
+use Rattle.vdp_state.proofs.Bools.{by-cases, both}
+use Rattle.vdp_state.proofs.Iterate.{iterate-related}
+use Rattle.vdp_state.proofs.Laws.{StepsGood, undone, performed-good, undoing-good}
+use Rattle.vdp_tape.specs.Book.{Book, turnPage, turned, turnedBack, BookOutcome, bookOutcomeAt, enterBy, enterBack}
+use Rattle.vdp_tape.specs.Demand.{seen, seenInBook}
+use Rattle.vdp_tape.specs.Number.{capacity, recordedNumber}
 use Rattle.vdp_tape.specs.Record.{recordOf, stepOf, goodRecord, recordAt}
-use Rattle.vdp_tape.specs.Recorder.{Recorder, recorder, recordStep, recordSteps, Plan, Reply, replied, recordedBy}
+use Rattle.vdp_tape.specs.Recorder.{Recorder, recorder, recordStep, recordNext, recordSteps, Plan, TapeOutcome, tapeOutcomeAt, recordedBy}
 use Rattle.vdp_tape.specs.StepBack.{topGood, undo, backTests, backNumber, stepBack}
 use Rattle.vdp_tape.proofs.Numbers.{accepted, recorded-number}
 use Rattle.vdp_tape.proofs.Records.{read-back, record-good}
@@ -53,6 +54,11 @@ trail-kept tape tape′ n c (p ∷ ps) e same t =
       trail-kept tape tape′ (n - 1) p ps (omega arith) (λ i h. same i (omega arith)) (t .3),
     )
 
+-- a step recorded leaves the tape's room
+room-after : (r : Recorder) (t : Step) → capacity (recordStep r t .tape) ≡ capacity (r .tape)
+unfolding recordStep
+room-after r t = ap (λ (n : ℕ). n / 32) (length-sets (r .tape) (32 * r .count) (recordOf (undoing (r .chip) t)))
+
 -- ---- one step recorded, and one page turned
 module _ (r : Recorder) (b : Book) (a : Alike r b) (t : Step) (g : GoodStep t) (more : r .count < capacity (r .tape)) where
   abbrev bytes : List ℕ
@@ -79,50 +85,34 @@ module _ (r : Recorder) (b : Book) (a : Alike r b) (t : Step) (g : GoodStep t) (
         (trail-kept (r .tape) tape′ (r .count) (r .chip) (b .pages) (a .count) (record-kept (r .tape) bytes (r .count) refl (omega arith)) (a .trail)),
   )
 
-  size : capacity tape′ ≡ capacity (r .tape)
-  size = ap (λ (n : ℕ). n / 32) (length-sets (r .tape) (32 * r .count) bytes)
-
   pub step-alike : Alike (recordStep r t) (record { present = perform (b .present) t; pages = b .present ∷ b .pages; capacity = b .capacity })
   unfolding recordStep
   step-alike =
       record {
         present = ap (λ (c : Chip). perform c t) (a .present);
         count = omega (arith, a .count);
-        room = size ∙ a .room;
+        room = room-after r t ∙ a .room;
         good = performed-good (r .chip) t (a .good) g;
-        fits = omega (arith, size);
+        fits = omega (arith, room-after r t);
         trail = subst (λ (c : Chip). Trail tape′ (r .count + 1) (perform (r .chip) t) (c ∷ b .pages)) (a .present) step-trail;
       }
 
 -- ---- a call's steps
--- each of n steps is in range where it is made
-abbrev pub StepsGood : (Chip → Step) → ℕ → Chip → Type 0
-StepsGood step zero c = Unit {0}
-StepsGood step (suc n) c = GoodStep (step c) × StepsGood step n (perform c (step c))
-
-room-after : (r : Recorder) (t : Step) → capacity (recordStep r t .tape) ≡ capacity (r .tape)
-unfolding recordStep
-room-after r t = ap (λ (n : ℕ). n / 32) (length-sets (r .tape) (32 * r .count) (recordOf (undoing (r .chip) t)))
-
-count-after : (r : Recorder) (t : Step) → recordStep r t .count ≡ r .count + 1
-unfolding recordStep
-count-after r t = refl
-
-chip-after : (r : Recorder) (t : Step) → recordStep r t .chip ≡ perform (r .chip) t
-unfolding recordStep
-chip-after r t = refl
-
 steps-alike : (step : Chip → Step) (n : ℕ) (r : Recorder) (b : Book) → Alike r b → StepsGood step n (r .chip) → r .count + n ≤ capacity (r .tape) → Alike (recordSteps step n r) (turned step n b)
-steps-alike step zero r b a g h = a
-steps-alike step (suc n) r b a g h =
-    let t = step (r .chip) in
-    let next : Alike (recordStep r t) (record { present = perform (b .present) (step (b .present)); pages = b .present ∷ b .pages; capacity = b .capacity }) =
-    subst (λ (c : Chip). Alike (recordStep r t) (record { present = perform (b .present) (step c); pages = b .present ∷ b .pages; capacity = b .capacity })) (a .present)
-    (step-alike r b a t (g .0) (omega arith)) in
-    steps-alike step n (recordStep r t) _ next (subst (StepsGood step n) (sym (chip-after r t)) (g .1)) (omega (arith, room-after r t, count-after r t))
+unfolding recordStep
+steps-alike step n r b a g h =
+    let Left : ℕ → Recorder → Book → Type 0 = λ k x y. Alike x y × StepsGood step k (x .chip) × (x .count + k ≤ capacity (x .tape)) in
+    let next : (k : ℕ) (x : Recorder) (y : Book) → Left (suc k) x y → Left k (recordNext step x) (turnPage step y) = λ k x y l.
+    let t = step (x .chip) in (
+      subst (λ (c : Chip). Alike (recordStep x t) (record { present = perform (y .present) (step c); pages = y .present ∷ y .pages; capacity = y .capacity })) (l .0 .present)
+          (step-alike x y (l .0) t (l .1 .0) (omega (arith, l .2))),
+      l .1 .1,
+      omega (arith, l .2, room-after x t),
+    ) in
+    iterate-related (recordNext step) (turnPage step) Left next n r b (a, g, h) .0
 
 -- what a call shows, and the two sides after it
-pub record Together (o : Reply) (e : Entry) : Type 0 where
+pub record Together (o : TapeOutcome) (e : BookOutcome) : Type 0 where
   pub shown : seen o ≡ seenInBook e
   pub after : Alike (o .recorder) (e .book)
 
@@ -131,12 +121,10 @@ alike-seen n result r b a =
     ap₂ (λ (c : Chip) (k : ℕ). record { number = n; count = k; state = c .state; vram = c .vram }) (a .present) (a .count)
 
 -- a call that is refused, or done, on both sides alike
-together : (n result : ℕ) (r r′ : Recorder) (b b′ : Book) → Alike r b → (n ≡ 0 → Alike r′ b′) → Together (replied n result r r′) (entry n b b′)
-together n result r r′ b b′ a done = by-number (eqb n 0) refl
-  where
-    by-number : (t : Bool) → eqb n 0 ≡ t → Together (replied n result r r′) (entry n b b′)
-    by-number true e = let d = done (eqb-true n 0 e) in rw e (record { shown = alike-seen 0 result r′ b′ d; after = d })
-    by-number false e = rw e (record { shown = alike-seen n 0 r b a; after = a })
+together : (n result : ℕ) (r r′ : Recorder) (b b′ : Book) → Alike r b → (n ≡ 0 → Alike r′ b′) → Together (tapeOutcomeAt n result r r′) (bookOutcomeAt n b b′)
+together n result r r′ b b′ a done =
+    by-cases (eqb n 0) (λ e. let d = done (eqb-true n 0 e) in rw e (record { shown = alike-seen 0 result r′ b′ d; after = d }))
+    (λ e. rw e (record { shown = alike-seen n 0 r b a; after = a }))
 
 -- a recorded call whose steps are in range where its plain form is accepted
 pub plan-together : (p : Plan) (r : Recorder) (b : Book) → Alike r b → (first (p .tests) ≡ 0 → StepsGood (p .step) (p .steps) (r .chip)) → Together (recordedBy p r) (enterBy p b)
@@ -145,8 +133,8 @@ plan-together p r b a good =
     let same : number ≡ recordedNumber (p .tests) (length (b .pages)) (b .capacity) (p .steps) = ap₂ (λ (k room : ℕ). recordedNumber (p .tests) k room (p .steps)) (a .count) (a .room) in
     let done : number ≡ 0 → Alike (recordSteps (p .step) (p .steps) r) (turned (p .step) (p .steps) b) = λ z.
     let q = accepted (first (p .tests)) (r .count) (capacity (r .tape)) (p .steps) (sym (recorded-number (p .tests) (r .count) (capacity (r .tape)) (p .steps)) ∙ z) in
-    steps-alike (p .step) (p .steps) r b a (good (q .plain-done)) (omega (arith, q .within, q .fits)) in
-    subst (λ (n : ℕ). Together (recordedBy p r) (entry n b (turned (p .step) (p .steps) b))) same
+    steps-alike (p .step) (p .steps) r b a (good (q .plain-done)) (q .fits) in
+    subst (λ (n : ℕ). Together (recordedBy p r) (bookOutcomeAt n b (turned (p .step) (p .steps) b))) same
     (together number (p .result) r (recordSteps (p .step) (p .steps) r) b (turned (p .step) (p .steps) b) a done)
 
 -- ---- step back
@@ -193,13 +181,11 @@ turned-back (suc k) b = refl
 
 -- 8 is never given: beyond the count 10 comes first, and the records on the tape are good
 number-back : (r : Recorder) (b : Book) (k : ℕ) → Alike r b → backNumber r k ≡ first (backTests (r .chip) (r .count) (capacity (r .tape)) k)
-number-back r b k a = by-count (ltb (r .count) k) refl
-  where
-    by-count : (t : Bool) → ltb (r .count) k ≡ t → backNumber r k ≡ first (backTests (r .chip) (r .count) (capacity (r .tape)) k)
-    by-count true e = simp e
-    by-count false e =
-        let q = back (r .tape) (r .count) k (r .chip) (b .pages) (a .count) (let h : k ≤ r .count = ltb-false (r .count) k e in omega (arith, a .count)) (a .good) (a .trail) in
-        simp (q .records)
+number-back r b k a =
+    by-cases (ltb (r .count) k) (λ e. simp e)
+    (λ e.
+    let q = back (r .tape) (r .count) k (r .chip) (b .pages) (a .count) (let h : k ≤ r .count = ltb-false (r .count) k e in omega (arith, a .count)) (a .good) (a .trail) in
+    simp (q .records))
 
 pub back-together : (k : ℕ) (r : Recorder) (b : Book) → Alike r b → Together (stepBack r k) (enterBack k b)
 back-together k r b a =
@@ -219,4 +205,4 @@ back-together k r b a =
       fits = omega (arith, a .fits);
       trail = subst (λ (c : Chip). Trail (r .tape) (r .count - k) c (drop k (b .pages))) (sym (q .chip-is)) (q .trail);
     }) in
-    subst (λ (n : ℕ). Together (stepBack r k) (entry n b (turnedBack k b))) same (together (backNumber r k) 0 r after b (turnedBack k b) a done)
+    subst (λ (n : ℕ). Together (stepBack r k) (bookOutcomeAt n b (turnedBack k b))) same (together (backNumber r k) 0 r after b (turnedBack k b) a done)

@@ -1,8 +1,6 @@
-pub mod Decided
 pub mod Demand
 pub mod Numbers
 pub mod Records
-pub mod Same
 pub mod Sequence
 pub mod Steps
 pub mod Tape

@@ -1,133 +1,166 @@
--- The laws of records: reading what was written gives it back; a record of a step in range is good; and bytes that read as
--- a good record are what writing it gives.
-use Prim.Native.Nat.{ℕ, _+_, _*_, _/_, _%_, _<_, _≤_}
-use mathlib.Core.Path.{_≡_, refl, sym, ap, ap₂, subst, _∙_}
-use mathlib.Core.Bool.{Bool, true, false, cond, _&&_, _||_, Bool·beq, true≢false}
-use mathlib.Core.List.{List}
+-- The laws of records:
+--     fields-back     the law of the layout: reading what was written gives what the fields hold
+--     read-back       reading the record of a step in range gives the step
+--     record-good     the record of a step in range is good
+--     good-written    a good record is what writing the step that it reads as gives
+use Prim.Native.Nat.{ℕ, zero, suc, _+_, _*_, _/_, _%_, _<_, _≤_}
+use mathlib.Core.Path.{_≡_, refl, sym, ap, ap₂, _∙_}
+use mathlib.Core.Bool.{Bool, true, false, _&&_}
+use mathlib.Core.List.{List, [], _∷_, _++_, append-assoc}
 use native.Mathlib.Omega.{arith}
-use borrow.Author.Tests.{ltb-true, leb-true, eqb-true}
-use lib.Dec.{eqb, leb, ltb}
+use borrow.Author.Tests.{eqb-true, leb-true, ltb-true}
+use lib.Dec.{eqb, ltb}
+use lib.ListN.{length, getD, length-append}
 use Rattle.vdp_state.specs.declared.state.Control.{Control}
-use Rattle.vdp_state.specs.declared.state.Dma.{Dma}
 use Rattle.vdp_state.specs.declared.state.Step.{Step}
 use Rattle.vdp_state.specs.declared.state.Store.{Store}
 use Rattle.vdp_state.specs.declared.state.Store.the-variants.{Nothing, Vram, Cram, Vsram, Register}
-use Rattle.vdp_state.specs.Good.{isColour, isScroll, goodSource, goodDma, goodControl, mostUnits}
-use Rattle.vdp_state.specs.Range.{GoodControl, goodStore, GoodStep}
-use Rattle.vdp_state.proofs.Laws.{both-left, both-right, both}
-use Rattle.vdp_tape.specs.Record.{bit, cellOf, storeOf, cell, recordOf, stepOf, same, goodRecord}
-use Rattle.vdp_tape.proofs.Same.{same-equal, same-self}
+use Rattle.vdp_state.specs.Colour.{colourWord}
+use Rattle.vdp_state.specs.Good.{isColour, isScroll, goodControl}
+use Rattle.vdp_state.specs.Range.{goodStore, GoodStep}
+use Rattle.vdp_state.specs.Same.{same}
+use Rattle.vdp_state.proofs.Bools.{both-left, both-right, both}
+use Rattle.vdp_state.proofs.Facts.{dma-facts, source-bits, parts}
+use Rattle.vdp_state.proofs.Same.{same-equal, same-self}
+use Rattle.vdp_tape.specs.Record.{keptOf, storeOf, bit, Field, layout, Reading, reading, bytesOf, numberAt, written, recordOf, readFrom, stepOf, goodRecord}
 
--- ---- the parts of GOOD of a DMA state
-pub record DmaFacts (d : Dma) : Type 0 where
-  pub kind : d .kind ≤ 4
-  pub most : d .remaining ≤ 65535
-  pub zero-exactly : Bool·beq (eqb (d .remaining) 0) (leb (d .kind) 1) ≡ true
-  pub source : goodSource (d .kind) (d .source) ≡ true
-  pub fill : (eqb (d .fill) 0 || eqb (d .kind) 3) ≡ true
+-- ---- a number in bytes
+-- so many bytes hold n
+abbrev pub InBytes : ℕ → ℕ → Type 0
+InBytes zero n = n ≡ 0
+InBytes (suc width) n = InBytes width (n / 256)
 
-pub dma-facts : (d : Dma) → goodDma d ≡ true → DmaFacts d
-dma-facts d e =
-    let limits : Bool = leb (d .kind) 4 && leb (d .remaining) mostUnits in
-    let exactly : Bool = Bool·beq (eqb (d .remaining) 0) (leb (d .kind) 1) in
-    let source : Bool = goodSource (d .kind) (d .source) in
-    let fill : Bool = eqb (d .fill) 0 || eqb (d .kind) 3 in
-    let a = both-left (limits && exactly && source) fill e in
-    let b = both-left (limits && exactly) source a in
-    let c = both-left limits exactly b in
-    record {
-      kind = leb-true (d .kind) 4 (both-left (leb (d .kind) 4) (leb (d .remaining) mostUnits) c);
-      most = leb-true (d .remaining) mostUnits (both-right (leb (d .kind) 4) (leb (d .remaining) mostUnits) c);
-      zero-exactly = both-right limits exactly b;
-      source = both-right (limits && exactly) source a;
-      fill = both-right (limits && exactly && source) fill e;
-    }
+-- a number that one byte holds is that byte
+pub one-byte : (n : ℕ) → InBytes 1 n → n % 256 ≡ n
+one-byte n h = omega arith
 
-or-cases : (a b : Bool) → (a || b) ≡ true → (a ≡ false → b ≡ true)
-or-cases true b e h = absurd (true≢false h)
-or-cases false b e h = e
+bytes-length : (width n : ℕ) → length (bytesOf width n) ≡ width
+bytes-length zero n = refl
+bytes-length (suc width) n = length-append (bytesOf width (n / 256)) (n % 256 ∷ []) ∙ (let ih = bytes-length width (n / 256) in omega arith)
 
-pub source-bits : (kind source : ℕ) → goodSource kind source ≡ true → source < 16777216
-source-bits kind source e = by-zero (eqb source 0) refl
-  where
-    two : Bool
-    two = eqb kind 2 && eqb (source % 2) 0 && ltb source 16777216
+at-end : (pre post : List ℕ) (b : ℕ) → getD (pre ++ (b ∷ post)) (length pre) 0 ≡ b
+at-end [] post b = refl
+at-end (x ∷ pre) post b = at-end pre post b
 
-    four : Bool
-    four = eqb kind 4 && ltb source 65536
+number-back : (width n : ℕ) (pre post : List ℕ) → InBytes width n → numberAt (pre ++ (bytesOf width n ++ post)) (length pre) width ≡ n
+number-back zero n pre post h = sym h
+number-back (suc zero) n pre post h = at-end pre post (n % 256) ∙ one-byte n h
+number-back (suc (suc width)) n pre post h =
+    let high : List ℕ = bytesOf (suc width) (n / 256) in
+    let rest : List ℕ = n % 256 ∷ post in
+    let split : pre ++ ((high ++ (n % 256 ∷ [])) ++ post) ≡ pre ++ (high ++ rest) = ap (λ (l : List ℕ). pre ++ l) (append-assoc high (n % 256 ∷ []) post) in
+    let upper : numberAt (pre ++ (high ++ rest)) (length pre) (suc width) ≡ n / 256 = number-back (suc width) (n / 256) pre rest h in
+    let place : length pre + suc width ≡ length (pre ++ high) = omega (arith, length-append pre high, bytes-length (suc width) (n / 256)) in
+    let lower : getD (pre ++ (high ++ rest)) (length pre + suc width) 0 ≡ n % 256 = ap₂ (λ (l : List ℕ) (i : ℕ). getD l i 0) (sym (append-assoc pre high rest)) place ∙ at-end (pre ++ high) post (n % 256) in
+    ap (λ (l : List ℕ). numberAt l (length pre) (suc width) * 256 + getD l (length pre + suc width) 0) split
+    ∙ ap₂ (λ (x y : ℕ). x * 256 + y) upper lower ∙ (let e : n / 256 * 256 + n % 256 ≡ n = omega arith in e)
 
-    by-two : (t : Bool) → two ≡ t → (two || four) ≡ true → source < 16777216
-    by-two true p q = ltb-true source 16777216 (both-right (eqb kind 2 && eqb (source % 2) 0) (ltb source 16777216) p)
-    by-two false p q =
-        let f : source < 65536 = ltb-true source 65536 (both-right (eqb kind 4) (ltb source 65536) (or-cases two four q p)) in
-        omega arith
+-- ---- the layout
+pub data FieldsFit : List Field → Step → Type 0 where
+  end : {t : Step} → FieldsFit [] t
+  row : {f : Field} {fs : List Field} {t : Step} → InBytes (f .width) (f .value t) → FieldsFit fs t → FieldsFit (f ∷ fs) t
 
-    by-zero : (t : Bool) → eqb source 0 ≡ t → source < 16777216
-    by-zero true z = let p : source ≡ 0 = eqb-true source 0 z in omega arith
-    by-zero false z = by-two two refl (simp z at e)
+-- a reading of what the fields hold
+abbrev pub held : (fs : List Field) → Reading fs → Step → Step
+held [] r t = r
+held (f ∷ fs) r t = held fs (r (f .value t)) t
 
--- ---- numbers of two and three bytes, flags
-two-back : (n : ℕ) → n / 256 * 256 + n % 256 ≡ n
-two-back n = omega arith
+pub fields-back : (fs : List Field) (r : Reading fs) (t : Step) (pre : List ℕ) → FieldsFit fs t → readFrom fs r (length pre) (pre ++ written fs t) ≡ held fs r t
+fields-back [] r t pre end = refl
+fields-back (f ∷ fs) r t pre (row here more) =
+    let bytes : List ℕ = bytesOf (f .width) (f .value t) in
+    let rest : List ℕ = written fs t in
+    let place : length pre + f .width ≡ length (pre ++ bytes) = omega (arith, length-append pre bytes, bytes-length (f .width) (f .value t)) in
+    ap (λ (n : ℕ). readFrom fs (r n) (length pre + f .width) (pre ++ (bytes ++ rest))) (number-back (f .width) (f .value t) pre rest here)
+    ∙ ap₂ (readFrom fs (r (f .value t))) place (sym (append-assoc pre bytes rest))
+    ∙ fields-back fs (r (f .value t)) t (pre ++ bytes) more
 
-three-back : (n : ℕ) → n < 16777216 → n / 65536 % 256 * 65536 + n / 256 % 256 * 256 + n % 256 ≡ n
-three-back n h = omega arith
+-- ---- a step in range: what its fields hold fits them, and reads as the step
+record KeptFits (x : Store) : Type 0 where
+  place : InBytes 2 (keptOf x .place)
+  content : InBytes 2 (keptOf x .content)
+  back : storeOf (keptOf x) ≡ x
 
-bit-back : (b : Bool) → eqb (bit b) 1 ≡ b
-bit-back true = refl
-bit-back false = refl
-
-overflow-back : (o c : Bool) → eqb ((bit o + 2 * bit c) % 2) 1 ≡ o
-overflow-back true true = refl
-overflow-back true false = refl
-overflow-back false true = refl
-overflow-back false false = refl
-
-collision-back : (o c : Bool) → eqb ((bit o + 2 * bit c) / 2 % 2) 1 ≡ c
-collision-back true true = refl
-collision-back true false = refl
-collision-back false true = refl
-collision-back false false = refl
-
--- ---- reading back
-control-back : (k : Control) (x : Store) → GoodControl k → stepOf (recordOf (record { control = k; store = x })) .control ≡ k
-control-back k x g =
-    let d = dma-facts (k .dma) (both-right (leb (k .port .code) 63) (goodDma (k .dma)) (g .good)) in
-    simp (
-      two-back (k .port .address),
-      bit-back (k .port .pending),
-      three-back (k .dma .remaining) (let h : k .dma .remaining < 16777216 = omega (arith, d .most) in h),
-      three-back (k .dma .source) (source-bits (k .dma .kind) (k .dma .source) (d .source)),
-      overflow-back (k .flags .overflow) (k .flags .collision),
-      collision-back (k .flags .overflow) (k .flags .collision),
-    )
-
-index-back : (n : ℕ) → n < 256 → (n / 256 * 256 + n % 256) % 256 ≡ n
+index-back : (n : ℕ) → n < 256 → n % 256 ≡ n
 index-back n h = omega arith
 
-store-back : (k : Control) (x : Store) → goodStore x ≡ true → stepOf (recordOf (record { control = k; store = x })) .store ≡ x
-store-back k Nothing e = refl
-store-back k (Vram place w) e = ap₂ Vram (two-back place) (two-back w)
-store-back k (Cram i w) e =
+colour-fits : (w : ℕ) → isColour w ≡ true → w < 65536
+unfolding colourWord
+colour-fits w e = let q : colourWord w ≡ w = eqb-true (colourWord w) w e in omega arith
+
+pub kind-fits : (x : Store) → InBytes 1 (keptOf x .kind)
+kind-fits Nothing = refl
+kind-fits (Vram place w) = refl
+kind-fits (Cram i w) = refl
+kind-fits (Vsram i w) = refl
+kind-fits (Register i b) = refl
+
+kept-fits : (x : Store) → goodStore x ≡ true → KeptFits x
+kept-fits Nothing e = record { place = refl; content = refl; back = refl }
+kept-fits (Vram place w) e =
+    let even : Bool = eqb (place % 2) 0 in
+    let inside : Bool = ltb place 65536 in
+    let p : place < 65536 = ltb-true place 65536 (both-right even inside (both-left (even && inside) (ltb w 65536) e)) in
+    let f : w < 65536 = ltb-true w 65536 (both-right (even && inside) (ltb w 65536) e) in
+    record { place = omega arith; content = omega arith; back = refl }
+kept-fits (Cram i w) e =
     let h : i < 64 = ltb-true i 64 (both-left (ltb i 64) (isColour w) e) in
-    ap₂ Cram (index-back i (omega arith)) (two-back w)
-store-back k (Vsram i w) e =
+    let f = colour-fits w (both-right (ltb i 64) (isColour w) e) in
+    record { place = omega arith; content = omega arith; back = ap (λ (j : ℕ). Cram j w) (index-back i (omega arith)) }
+kept-fits (Vsram i w) e =
     let h : i < 40 = ltb-true i 40 (both-left (ltb i 40) (isScroll w) e) in
-    ap₂ Vsram (index-back i (omega arith)) (two-back w)
-store-back k (Register i b) e =
+    let f : w ≤ 1023 = leb-true w 1023 (both-right (ltb i 40) (isScroll w) e) in
+    record { place = omega arith; content = omega arith; back = ap (λ (j : ℕ). Vsram j w) (index-back i (omega arith)) }
+kept-fits (Register i b) e =
     let h : i < 24 = ltb-true i 24 (both-left (ltb i 24) (ltb b 256) e) in
     let f : b < 256 = ltb-true b 256 (both-right (ltb i 24) (ltb b 256) e) in
-    ap₂ Register (index-back i (omega arith)) (index-back b f)
+    record { place = omega arith; content = omega arith; back = ap₂ Register (index-back i (omega arith)) (index-back b f) }
 
-pub read-back : (t : Step) → GoodStep t → stepOf (recordOf t) ≡ t
-read-back t g =
-    ap₂ (λ (k : Control) (x : Store). record { control = k; store = x }) (control-back (t .control) (t .store) (g .control)) (store-back (t .control) (t .store) (g .store))
+pub record FlagsFit (o c : Bool) : Type 0 where
+  pub fits : InBytes 1 (bit o + 2 * bit c)
+  pub overflow : eqb ((bit o + 2 * bit c) % 2) 1 ≡ o
+  pub collision : eqb ((bit o + 2 * bit c) / 2 % 2) 1 ≡ c
 
-pub record-good : (t : Step) → GoodStep t → goodRecord (recordOf t) ≡ true
-record-good t g =
-    let b = read-back t g in
-    both (both (ap (λ (x : Step). same (recordOf x) (recordOf t)) b ∙ same-self (recordOf t)) (ap (λ (x : Step). goodControl (x .control)) b ∙ g .control .good))
-    (ap (λ (x : Step). goodStore (x .store)) b ∙ g .store)
+pub flags-fit : (o c : Bool) → FlagsFit o c
+flags-fit true true = record { fits = refl; overflow = refl; collision = refl }
+flags-fit true false = record { fits = refl; overflow = refl; collision = refl }
+flags-fit false true = record { fits = refl; overflow = refl; collision = refl }
+flags-fit false false = record { fits = refl; overflow = refl; collision = refl }
+
+pub bit-fits : (b : Bool) → InBytes 1 (bit b) × (eqb (bit b) 1 ≡ b)
+bit-fits true = (refl, refl)
+bit-fits false = (refl, refl)
+
+module _ (t : Step) (g : GoodStep t) where
+  abbrev k : Control
+  k = t .control
+
+  fit : FieldsFit layout t
+  fit =
+      let x = kept-fits (t .store) (g .store) in
+      let p = parts k (g .control) in
+      let d = dma-facts (k .dma) (p .dma) in
+      let bits = source-bits (k .dma .kind) (k .dma .source) (d .source) in
+      let address : InBytes 2 (k .port .address) = omega (arith, p .address) in
+      let code : InBytes 1 (k .port .code) = omega (arith, p .code) in
+      let kind : InBytes 1 (k .dma .kind) = omega (arith, d .kind) in
+      let remaining : InBytes 3 (k .dma .remaining) = omega (arith, d .most) in
+      let source : InBytes 3 (k .dma .source) = omega (arith, bits) in
+      let fill : InBytes 1 (k .dma .fill) = omega (arith, p .fill) in
+      let flags = flags-fit (k .flags .overflow) (k .flags .collision) .fits in
+      row refl (row refl (row (kind-fits (t .store)) (row (x .place) (row (x .content) (row address (row code (row (bit-fits (k .port .pending) .0)
+      (row kind (row remaining (row source (row fill (row flags (row refl end)))))))))))))
+
+  pub read-back : stepOf (recordOf t) ≡ t
+  read-back =
+      let f = flags-fit (k .flags .overflow) (k .flags .collision) in
+      fields-back layout reading t [] fit
+      ∙ ap₂ (λ (c : Control) (x : Store). record { control = c; store = x }) (simp (bit-fits (k .port .pending) .1, f .overflow, f .collision)) (kept-fits (t .store) (g .store) .back)
+
+  pub record-good : goodRecord (recordOf t) ≡ true
+  record-good =
+      both (both (ap (λ (x : Step). same (recordOf x) (recordOf t)) read-back ∙ same-self (recordOf t)) (ap (λ (x : Step). goodControl (x .control)) read-back ∙ g .control .good))
+      (ap (λ (x : Step). goodStore (x .store)) read-back ∙ g .store)
 
 pub good-written : (l : List ℕ) → goodRecord l ≡ true → recordOf (stepOf l) ≡ l
 good-written l e =

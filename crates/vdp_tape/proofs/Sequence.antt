@@ -1,153 +1,126 @@
--- Demand 3: the theorem over whole sequences of calls, and what a step back brings back.
+-- The claims about recorded calls, proved.
 --     demand3                     the claim `Demand3` of specs/Demand.antt
---     step-back-takes-back        after any sequence, stepping back k gives the state and VRAM of the k-th page from the top
-use Prim.Native.Nat.{ℕ, zero, suc, _+_, _-_, _*_, _/_, _%_, _<_, _≤_}
+--     step-back-takes-back        the claim `StepBackTakesBack` beside it
+--     recorded-as-plain           the claim `RecordedAsPlain` of specs/Recorded.antt, by `plan-as-plain` over plans
+use Prim.Native.Nat.{ℕ, suc, _≤_}
 use mathlib.Core.Path.{_≡_, refl, sym, ap, ap₂, subst, _∙_}
-use mathlib.Core.Bool.{Bool, true, false, cond}
 use mathlib.Core.List.{List, [], _∷_}
 use native.Mathlib.Omega.{arith}
-use borrow.Author.Tests.{leb-true, eq-eqb, le-ltb}
-use lib.Dec.{eqb, leb, ltb}
-use lib.ListN.{length, getD}
-use Rattle.vdp_state.specs.declared.state.Dma.{Dma}
+use borrow.Author.Tests.{eq-eqb, le-ltb, eqb-true}
+use lib.Dec.{eqb}
+use lib.ListN.{length}
 use Rattle.vdp_state.specs.declared.state.State.{State}
 use Rattle.vdp_state.specs.declared.state.Step.{Step}
-use Rattle.vdp_state.specs.Answer.{Test, first}
-use Rattle.vdp_state.specs.Cell.{perform, present, storedIn}
-use Rattle.vdp_state.specs.Range.{Bytes, GoodChip, GoodStep}
+use Rattle.vdp_state.specs.Answer.{first, done, answered, Outcome, outcome, outcomeAt}
+use Rattle.vdp_state.specs.Cell.{perform, made, steps}
+use Rattle.vdp_state.specs.Range.{GoodChip}
 use Rattle.vdp_state.specs.State.{Chip, chip}
-use Rattle.vdp_state.proofs.Laws.{performed-good}
-use Rattle.vdp_ports.specs.Control.{registerWrite, firstHalf, secondHalf, controlTests, controlStep}
+use Rattle.vdp_state.proofs.Bools.{by-cases}
+use Rattle.vdp_state.proofs.Iterate.{iterate-mapped}
+use Rattle.vdp_state.proofs.Laws.{StepsGood}
+use Rattle.vdp_ports.specs.Control.{controlTests, controlStep}
+use Rattle.vdp_ports.specs.Data.{dataTests, dataWord, dataReadStep}
 use Rattle.vdp_ports.specs.Frame.{frameTests, frameStep}
 use Rattle.vdp_ports.specs.Status.{statusTests, statusStep, statusWord}
+use Rattle.vdp_ports.proofs.Decided.{control-good, write-good, read-good, status-good, frame-good}
 use Rattle.vdp_dma.specs.Run.{unitsMade}
-use Rattle.vdp_dma.specs.Unit.{unitDma, unit}
-use Rattle.vdp_tape.specs.Book.{Call, ControlWrite, ControlWriteByte, DataWrite, DataWriteByte, DataRead, StatusRead, NewFrame, Run, StepBack, Book, newBook, enterBy, enter}
-use Rattle.vdp_tape.specs.Demand.{withoutVram, serve, Fits, AllFit, Seen, seen, servedAll, enteredAll, Demand3}
-use Rattle.vdp_tape.specs.Number.{capacity}
-use Rattle.vdp_tape.specs.Recorded.{controlPlan, dataWritePlan, dataReadPlan, statusPlan, framePlan, runPlan}
-use Rattle.vdp_tape.specs.Recorder.{Recorder, recorder, Plan, Reply, recordedBy, oneStep, beside}
+use Rattle.vdp_dma.proofs.Decided.{units-good}
+use Rattle.vdp_tape.specs.Book.{Act, Make, StepBack, Book, newBook, enterBy, enter}
+use Rattle.vdp_tape.specs.Demand.{serve, Fits, AllFit, Seen, servedAll, enteredAll, Demand3, servedTo, enteredTo, StepBackTakesBack}
+use Rattle.vdp_tape.specs.Number.{capacity, recordedNumber}
+use Rattle.vdp_tape.specs.OneStep.{OffVram}
+use Rattle.vdp_tape.specs.Recorded.{Call, ControlWrite, DataWrite, DataRead, StatusRead, NewFrame, Run, planOf, recorded, plainOf, withoutTape, RecordedAsPlain}
+use Rattle.vdp_tape.specs.Recorder.{Recorder, recorder, recordStep, recordNext, recordSteps, Plan, tapeOutcomeAt, recordedBy}
 use Rattle.vdp_tape.specs.StepBack.{backTests}
-use Rattle.vdp_tape.proofs.Decided.{by-cond, control-good, write-good, read-good, status-good, frame-good, unit-good}
-use Rattle.vdp_tape.proofs.Demand.{Alike, StepsGood, Together, plan-together, back-together}
-use Rattle.vdp_tape.proofs.Steps.{one-recorded, beside-vram}
-
--- ---- the calls that are lent no VRAM
--- a step that keeps no VRAM word and stores none
-abbrev Off : State → List ℕ → Step → Type 0
-Off s vram t = (present (chip s []) (t .store) ≡ present (chip s vram) (t .store)) × (storedIn vram (t .store) ≡ vram)
-
--- such a call gives the same beside any VRAM
-no-vram : (tests : List Test) (result : ℕ) (step : State → Step) (s : State) (vram tape : List ℕ) (count : ℕ)
-    → Off s vram (step s)
-    → beside vram (recordedBy (record { tests = tests; result = result; steps = 1; step = λ x. step (x .state) }) (recorder s [] tape count))
-    ≡ recordedBy (record { tests = tests; result = result; steps = 1; step = λ x. step (x .state) }) (recorder s vram tape count)
-no-vram tests result step s vram tape count h =
-    let made : (m : List ℕ) → oneStep (first tests) result (recorder s m tape count) (step s) ≡ recordedBy (record { tests = tests; result = result; steps = 1; step = λ x. step (x .state) }) (recorder s m tape count) =
-    λ m. one-recorded tests result (λ x. step (x .state)) (recorder s m tape count) (first tests) result (step s) refl refl refl in
-    ap (beside vram) (sym (made [])) ∙ beside-vram vram s tape count (step s) (h .0) (h .1) (first tests) result ∙ made vram
-
--- a control word stores a register or nothing
-register-off : (s : State) (w : ℕ) (vram : List ℕ) → Off s vram (registerWrite (s .control) w)
-register-off s w vram = by-number (ltb (w / 256 % 32) 24) refl
-  where
-    by-number : (t : Bool) → ltb (w / 256 % 32) 24 ≡ t → Off s vram (registerWrite (s .control) w)
-    by-number true e = simp e (refl, refl)
-    by-number false e = simp e (refl, refl)
-
-control-off : (s : State) (w : ℕ) (vram : List ℕ) → Off s vram (controlStep s w)
-unfolding controlStep
-control-off s w vram =
-    by-cond (Off s vram) (s .control .port .pending) (secondHalf s w) (cond (eqb (w / 16384) 2) (registerWrite (s .control) w) (firstHalf (s .control) w)) (λ e. (refl, refl))
-    (λ e. by-cond (Off s vram) (eqb (w / 16384) 2) (registerWrite (s .control) w) (firstHalf (s .control) w) (λ f. register-off s w vram) (λ f. (refl, refl)))
-
--- ---- the units of a run
-unit-lowers : (cartridge ram : List ℕ) (c : Chip) → 0 < c .state .control .dma .remaining → unit cartridge ram c .control .dma .remaining ≡ c .state .control .dma .remaining - 1
-unit-lowers cartridge ram c more =
-    let d = c .state .control .dma in
-    let Lower : Step → Type 0 = λ t. t .control .dma .remaining ≡ d .remaining - 1 in
-    let lowered : (source : ℕ) → unitDma d source .remaining ≡ d .remaining - 1 =
-    λ source. by-cond (λ (x : Dma). x .remaining ≡ d .remaining - 1) (leb (d .remaining) 1) _ _ (λ e. let h = leb-true (d .remaining) 1 e in omega arith) (λ e. refl) in
-    by-cond Lower (eqb (d .kind) 2) _ _ (λ e. lowered _) (λ e. by-cond Lower (eqb (d .kind) 3) _ _ (λ f. lowered _) (λ f. lowered _))
-
-units-good : (cartridge ram : List ℕ) → Bytes cartridge → Bytes ram → (n : ℕ) (c : Chip) → GoodChip c → n ≤ c .state .control .dma .remaining → StepsGood (unit cartridge ram) n c
-unfolding perform
-units-good cartridge ram b r zero c g h = tt
-units-good cartridge ram b r (suc n) c g h =
-    let u = unit-good cartridge ram b r c g (omega arith) in
-    (u, units-good cartridge ram b r n (perform c (unit cartridge ram c)) (performed-good c (unit cartridge ram c) g u) (omega (arith, unit-lowers cartridge ram c (let m : 0 < c .state .control .dma .remaining = omega arith in m))))
+use Rattle.vdp_tape.proofs.Demand.{Alike, Together, plan-together, back-together}
+use Rattle.vdp_tape.proofs.Numbers.{recorded-number, accepted}
+use Rattle.vdp_tape.proofs.Steps.{off-vram, control-off}
 
 -- ---- each call
--- a plan read with the present of the book is the plan read with the recorder's chip
-by-plan : (plan : Chip → Plan) (r : Recorder) (b : Book) → Alike r b → StepsGood (plan (r .chip) .step) (plan (r .chip) .steps) (r .chip) → Together (recordedBy (plan (r .chip)) r) (enterBy (plan (b .present)) b)
-by-plan plan r b a g = subst (λ (c : Chip). Together (recordedBy (plan (r .chip)) r) (enterBy (plan c) b)) (a .present) (plan-together (plan (r .chip)) r b a (λ e. g))
+-- the steps of a call are in range on a good chip
+in-range : (call : Call) → Fits (Make call) → (c : Chip) → GoodChip c → StepsGood (planOf call c .step) (planOf call c .steps) c
+in-range (ControlWrite w) f c g = (control-good c w f g, tt)
+in-range (DataWrite w) f c g = (write-good c g w f, tt)
+in-range DataRead f c g = (read-good c g, tt)
+in-range StatusRead f c g = (status-good c g, tt)
+in-range NewFrame f c g = (frame-good c g, tt)
+in-range (Run cartridge ram budget) f c g = units-good cartridge ram (f .0) (f .1) (unitsMade (c .state) budget) c g (omega arith)
 
-call-together : (call : Call) → Fits call → (r : Recorder) (b : Book) → Alike r b → Together (serve call r) (enter call b)
-call-together (ControlWrite w) f r b a =
-    subst (λ (o : Reply). Together o (enter (ControlWrite w) b))
-    (sym (no-vram (controlTests (r .chip .state)) 0 (λ s. controlStep s w) (r .chip .state) (r .chip .vram) (r .tape) (r .count) (control-off (r .chip .state) w (r .chip .vram))))
-    (by-plan (controlPlan w) r b a (control-good (r .chip) w f (a .good), tt))
-call-together (ControlWriteByte x) f r b a =
-    subst (λ (o : Reply). Together o (enter (ControlWriteByte x) b))
-    (sym (no-vram (controlTests (r .chip .state)) 0 (λ s. controlStep s (257 * x)) (r .chip .state) (r .chip .vram) (r .tape) (r .count) (control-off (r .chip .state) (257 * x) (r .chip .vram))))
-    (by-plan (controlPlan (257 * x)) r b a (control-good (r .chip) (257 * x) (omega arith) (a .good), tt))
-call-together (DataWrite w) f r b a = by-plan (dataWritePlan w) r b a (write-good (r .chip) (a .good) w f, tt)
-call-together (DataWriteByte x) f r b a = by-plan (dataWritePlan (257 * x)) r b a (write-good (r .chip) (a .good) (257 * x) (omega arith), tt)
-call-together DataRead f r b a = by-plan dataReadPlan r b a (read-good (r .chip) (a .good), tt)
-call-together StatusRead f r b a =
-    subst (λ (o : Reply). Together o (enter StatusRead b))
-    (sym (no-vram (statusTests (r .chip .state)) (statusWord (r .chip .state)) statusStep (r .chip .state) (r .chip .vram) (r .tape) (r .count) (refl, refl)))
-    (by-plan statusPlan r b a (status-good (r .chip) (a .good), tt))
-call-together NewFrame f r b a =
-    subst (λ (o : Reply). Together o (enter NewFrame b))
-    (sym (no-vram (frameTests (r .chip .state)) 0 frameStep (r .chip .state) (r .chip .vram) (r .tape) (r .count) (refl, refl)))
-    (by-plan framePlan r b a (frame-good (r .chip) (a .good), tt))
-call-together (Run cartridge ram budget) f r b a =
-    by-plan (runPlan cartridge ram budget) r b a (units-good cartridge ram (f .0) (f .1) (unitsMade (r .chip .state) budget) (r .chip) (a .good) (omega arith))
-call-together (StepBack k) f r b a = back-together k r b a
+-- a plan read with the present of the book is the plan read with the recorder's chip
+act-together : (a : Act) → Fits a → (r : Recorder) (b : Book) → Alike r b → Together (serve a r) (enter a b)
+act-together (Make call) f r b e =
+    subst (λ (c : Chip). Together (recorded call r) (enterBy (planOf call c) b)) (e .present)
+    (plan-together (planOf call (r .chip)) r b e (λ z. in-range call f (r .chip) (e .good)))
+act-together (StepBack k) f r b e = back-together k r b e
 
 -- ---- whole sequences
-sequence : (calls : List Call) → AllFit calls → (r : Recorder) (b : Book) → Alike r b → servedAll calls r ≡ enteredAll calls b
-sequence [] f r b a = refl
-sequence (c ∷ cs) f r b a =
-    let t = call-together c (f .0) r b a in
-    ap₂ (λ (x : Seen) (xs : List Seen). x ∷ xs) (t .shown) (sequence cs (f .1) (serve c r .recorder) (enter c b .book) (t .after))
+sequence : (acts : List Act) → AllFit acts → (r : Recorder) (b : Book) → Alike r b → servedAll acts r ≡ enteredAll acts b
+sequence [] f r b e = refl
+sequence (a ∷ acts) f r b e =
+    let t = act-together a (f .0) r b e in
+    ap₂ (λ (x : Seen) (xs : List Seen). x ∷ xs) (t .shown) (sequence acts (f .1) (serve a r .recorder) (enter a b .book) (t .after))
 
 -- at the start there are no pages and no records
 start : (s : State) (vram tape : List ℕ) → GoodChip (chip s vram) → Alike (recorder s vram tape 0) (newBook (chip s vram) (capacity tape))
 start s vram tape g = record { present = refl; count = refl; room = refl; good = g; fits = omega arith; trail = tt }
 
 pub demand3 : Demand3
-demand3 calls f s vram tape g = sequence calls f (recorder s vram tape 0) (newBook (chip s vram) (capacity tape)) (start s vram tape g)
+demand3 acts f s vram tape g = sequence acts f (recorder s vram tape 0) (newBook (chip s vram) (capacity tape)) (start s vram tape g)
 
 -- ---- the corollary
--- the recorder and the book after a sequence of calls
-abbrev pub servedTo : List Call → Recorder → Recorder
-servedTo [] r = r
-servedTo (c ∷ cs) r = servedTo cs (serve c r .recorder)
+alike-after : (acts : List Act) → AllFit acts → (r : Recorder) (b : Book) → Alike r b → Alike (servedTo acts r) (enteredTo acts b)
+alike-after [] f r b e = e
+alike-after (a ∷ acts) f r b e = alike-after acts (f .1) (serve a r .recorder) (enter a b .book) (act-together a (f .0) r b e .after)
 
-abbrev pub enteredTo : List Call → Book → Book
-enteredTo [] b = b
-enteredTo (c ∷ cs) b = enteredTo cs (enter c b .book)
+accepted-back : (c : Chip) (n room k : ℕ) → GoodChip c → n ≤ room → k ≤ n → first (backTests c n room k) ≡ 0
+accepted-back c n room k g within few = simp (g .good, eq-eqb (length (c .vram)) 65536 (g .size), le-ltb room n within, le-ltb n k few)
 
-alike-after : (calls : List Call) → AllFit calls → (r : Recorder) (b : Book) → Alike r b → Alike (servedTo calls r) (enteredTo calls b)
-alike-after [] f r b a = a
-alike-after (c ∷ cs) f r b a = alike-after cs (f .1) (serve c r .recorder) (enter c b .book) (call-together c (f .0) r b a .after)
-
-accepted-back : (b : Book) (c : Chip) (n room k : ℕ) → GoodChip c → n ≤ room → k ≤ n → first (backTests c n room k) ≡ 0
-accepted-back b c n room k g within few = simp (g .good, eq-eqb (length (c .vram)) 65536 (g .size), le-ltb room n within, le-ltb n k few)
-
--- a page is the chip as it stood before a step that is not taken back: stepping back k is accepted where there are so many
--- pages, and gives the state and VRAM of the k-th from the top, also inside a run
-pub step-back-takes-back : (calls : List Call) → AllFit calls → (s : State) (vram tape : List ℕ) → GoodChip (chip s vram) → (k : ℕ)
-    → let r = servedTo calls (recorder s vram tape 0) in
-    let b = enteredTo calls (newBook (chip s vram) (capacity tape)) in
-    k < length (b .pages) → (serve (StepBack (suc k)) r .number ≡ 0) × (serve (StepBack (suc k)) r .recorder .chip ≡ getD (b .pages) k (b .present))
-step-back-takes-back calls f s vram tape g k h =
-    let r = servedTo calls (recorder s vram tape 0) in
-    let b = enteredTo calls (newBook (chip s vram) (capacity tape)) in
-    let a = alike-after calls f (recorder s vram tape 0) (newBook (chip s vram) (capacity tape)) (start s vram tape g) in
+pub step-back-takes-back : StepBackTakesBack
+step-back-takes-back acts f s vram tape g k h =
+    let r = servedTo acts (recorder s vram tape 0) in
+    let b = enteredTo acts (newBook (chip s vram) (capacity tape)) in
+    let a = alike-after acts f (recorder s vram tape 0) (newBook (chip s vram) (capacity tape)) (start s vram tape g) in
     let t = back-together (suc k) r b a in
     let z : first (backTests (b .present) (length (b .pages)) (b .capacity) (suc k)) ≡ 0 =
-    accepted-back b (b .present) (length (b .pages)) (b .capacity) (suc k) (subst GoodChip (a .present) (a .good)) (omega (arith, a .count, a .room, a .fits)) h in
+    accepted-back (b .present) (length (b .pages)) (b .capacity) (suc k) (subst GoodChip (a .present) (a .good)) (omega (arith, a .count, a .room, a .fits)) h in
     (ap (λ (x : Seen). x .number) (t .shown) ∙ simp z, t .after .present ∙ simp z)
+
+-- ---- recorded and plain
+-- what a plan's plain form leaves: its steps, and no records
+abbrev plainBy : Plan → Chip → Outcome
+plainBy p c = outcomeAt (first (p .tests)) (p .result) c (steps (p .step) (p .steps) c)
+
+recorded-steps : (step : Chip → Step) (n : ℕ) (r : Recorder) → recordSteps step n r .chip ≡ steps step n (r .chip)
+unfolding recordStep
+recorded-steps step n r = iterate-mapped (recordNext step) (made step) (λ (x : Recorder). x .chip) (λ x. refl) n r
+
+outcome-zero : (n result : ℕ) (before after : Recorder) → tapeOutcomeAt n result before after .number ≡ 0 → n ≡ 0
+outcome-zero n result before after z = by-cases (eqb n 0) (λ e. eqb-true n 0 e) (λ e. simp e at z)
+
+pub plan-as-plain : (p : Plan) (r : Recorder) → recordedBy p r .number ≡ 0 → withoutTape (recordedBy p r) ≡ plainBy p (r .chip)
+plan-as-plain p r e =
+    let room = capacity (r .tape) in
+    let after = recordSteps (p .step) (p .steps) r in
+    let z = outcome-zero (recordedNumber (p .tests) (r .count) room (p .steps)) (p .result) r after e in
+    let a = accepted (first (p .tests)) (r .count) room (p .steps) (sym (recorded-number (p .tests) (r .count) room (p .steps)) ∙ z) in
+    ap (λ (n : ℕ). withoutTape (tapeOutcomeAt n (p .result) r after)) z
+    ∙ ap (λ (c : Chip). outcome (done (p .result) (c .state)) (c .vram)) (recorded-steps (p .step) (p .steps) r)
+    ∙ sym (ap (λ (n : ℕ). outcomeAt n (p .result) (r .chip) (steps (p .step) (p .steps) (r .chip))) (a .plain-done))
+
+-- ---- the plain form of each plan
+module _ (c : Chip) (n w : ℕ) (t : Step) where
+  one-answered : OffVram (t .store) → outcomeAt n w c (perform c t) ≡ outcome (answered n (c .state) t w) (c .vram)
+  unfolding perform
+  one-answered off = by-cases (eqb n 0) (λ e. simp (e, off-vram (c .state) (c .vram) (t .store) off .1)) (λ e. simp e)
+
+plain-is : (call : Call) (c : Chip) → plainBy (planOf call c) c ≡ plainOf call c
+unfolding dataReadStep
+plain-is (ControlWrite w) c = one-answered c (first (controlTests (c .state))) 0 (controlStep (c .state) w) (control-off (c .state) w)
+plain-is (DataWrite w) c = refl
+plain-is DataRead c = one-answered c (first (dataTests c)) (dataWord c) (dataReadStep (c .state)) tt
+plain-is StatusRead c = one-answered c (first (statusTests (c .state))) (statusWord (c .state)) (statusStep (c .state)) tt
+plain-is NewFrame c = one-answered c (first (frameTests (c .state))) 0 (frameStep (c .state)) tt
+plain-is (Run cartridge ram budget) c = refl
+
+pub recorded-as-plain : RecordedAsPlain
+recorded-as-plain call r e = plan-as-plain (planOf call (r .chip)) r e ∙ plain-is call (r .chip)

@@ -1,7 +1,7 @@
--- Recorded calls of one step, and loops that record or undo steps.
-use Prim.Native.Nat.{ℕ, zero, suc, _+_, _-_, _*_, _<_, _≤_}
-use mathlib.Core.Path.{_≡_, refl, sym, ap, ap₂, subst, _∙_}
-use mathlib.Core.Bool.{Bool, true, false, cond, not, _&&_, _||_}
+-- Outcomes of recorded calls, and loops that go over the records of a tape.
+use Prim.Native.Nat.{ℕ, suc, _+_, _-_, _*_, _/_, _%_, _<_, _≤_}
+use mathlib.Core.Path.{_≡_, refl, sym, ap, ap₂, _∙_}
+use mathlib.Core.Bool.{false, not, _&&_, _||_}
 use mathlib.Core.List.{List, [], _∷_}
 use native.Mathlib.Omega.{arith}
 use borrow.Author.Tests.{ne-eqb, ltb-false}
@@ -10,47 +10,68 @@ use lib.ListN.{length, take, drop}
 use Rattle.vdp_state.specs.declared.state.State.{State}
 use Rattle.vdp_state.specs.declared.state.Step.{Step}
 use Rattle.vdp_state.specs.declared.state.Store.{Store}
-use Rattle.vdp_state.specs.Answer.{Test, first}
+use Rattle.vdp_state.specs.declared.state.Store.the-variants.{Nothing, Vram, Cram, Vsram, Register}
 use Rattle.vdp_state.specs.Cell.{perform, undoing, present, storedIn}
 use Rattle.vdp_state.specs.Good.{good}
 use Rattle.vdp_state.specs.State.{Chip, chip}
-use Rattle.vdp_dma.proofs.Accepted.{cond-zero, none}
-use Rattle.vdp_tape.specs.Number.{capacity, withTape}
+use Rattle.vdp_state.proofs.Bools.{by-cases, by-cond, none, cond-zero}
+use Rattle.vdp_ports.specs.Control.{controlStep}
+use Rattle.vdp_tape.specs.Number.{capacity, recordedNumber}
+use Rattle.vdp_tape.specs.OneStep.{OneStep, OffVram}
 use Rattle.vdp_tape.specs.Record.{stepOf, goodRecord, recordAt}
-use Rattle.vdp_tape.specs.Recorder.{Recorder, recorder, recordStep, recordSteps, Reply, replied, recordedBy, oneStep, beside}
+use Rattle.vdp_tape.specs.Recorder.{Recorder, recorder, recordStep, recordSteps, Plan, TapeOutcome, tapeOutcomeAt, recordedBy}
 use Rattle.vdp_tape.specs.StepBack.{topGood, undo, backNumber}
-use Rattle.vdp_tape.proofs.Numbers.{recorded-number}
 
 pub empty : (l : List ℕ) → length l ≡ 0 → l ≡ []
 empty [] e = refl
 empty (x ∷ l) e = absurd (let bad : ⊥ = omega arith in bad)
 
--- a recorded call of one step is made by its plain form's number, result and step
-pub one-recorded : (tests : List Test) (result : ℕ) (step : Chip → Step) (r : Recorder) (plain w : ℕ) (t : Step) → plain ≡ first tests → w ≡ result → t ≡ step (r .chip) → oneStep plain w r t ≡ recordedBy (record { tests = tests; result = result; steps = 1; step = step }) r
-one-recorded tests result step r plain w t p q e =
-    ap (λ (n : ℕ). oneStep n w r t) p ∙ ap₂ (λ (k : ℕ) (x : Step). oneStep (first tests) k r x) q e
-    ∙ ap (λ (n : ℕ). replied n result r (recordStep r (step (r .chip)))) (sym (recorded-number tests (r .count) (capacity (r .tape)) 1))
+-- ---- refused and done
+module _ (result : ℕ) (before after : Recorder) where
+  pub outcome-refused : (n m : ℕ) → n ≡ m → (n ≡ 0 → ⊥) → record { number = n; result = 0; recorder = before } ≡ tapeOutcomeAt m result before after
+  outcome-refused n m e h = sym (simp (ne-eqb n 0 h)) ∙ ap (λ (k : ℕ). tapeOutcomeAt k result before after) e
 
--- a step that neither stores to VRAM nor keeps a VRAM word is recorded alike beside any VRAM
-module _ (vram : List ℕ) (s : State) (tape : List ℕ) (count : ℕ) (t : Step) (kept : present (chip s []) (t .store) ≡ present (chip s vram) (t .store)) (stays : storedIn vram (t .store) ≡ vram) where
-  pub beside-vram : (plain result : ℕ) → beside vram (oneStep plain result (recorder s [] tape count) t) ≡ oneStep plain result (recorder s vram tape count) t
-  unfolding recordStep perform undoing
-  beside-vram plain result = by-number (eqb (withTape plain (ltb (capacity tape) count) (ltb (capacity tape - count) 1)) 0) refl
-    where
-      by-number : (b : Bool) → eqb (withTape plain (ltb (capacity tape) count) (ltb (capacity tape - count) 1)) 0 ≡ b → beside vram (oneStep plain result (recorder s [] tape count) t) ≡ oneStep plain result (recorder s vram tape count) t
-      by-number true e = simp (e, kept, stays)
-      by-number false e = simp e
+  pub outcome-done : (n m : ℕ) → n ≡ m → n ≡ 0 → record { number = 0; result = result; recorder = after } ≡ tapeOutcomeAt m result before after
+  outcome-done n m e z = sym (simp (sym e ∙ z))
 
--- ---- loops
-pub record-turn : (step : Chip → Step) (n i : ℕ) (r : Recorder) → i < n → recordSteps step (n - i) r ≡ recordSteps step (n - (i + 1)) (recordStep r (step (r .chip)))
-record-turn step n i r h = ap (λ (k : ℕ). recordSteps step k r) (let e : n - i ≡ suc (n - (i + 1)) = omega arith in e)
+-- the outcome of a plan of one step, by its number, its result and the step
+pub one-outcome : (p : Plan) (r : Recorder) (plain result : ℕ) (t : Step) → OneStep p (r .chip) plain result t → recordedBy p r ≡ tapeOutcomeAt (recordedNumber (p .tests) (r .count) (capacity (r .tape)) 1) result r (recordStep r t)
+one-outcome p r plain result t o =
+    ap (λ (n : ℕ). tapeOutcomeAt (recordedNumber (p .tests) (r .count) (capacity (r .tape)) n) (p .result) r (recordSteps (p .step) n r)) (o .one)
+    ∙ ap₂ (λ (k : ℕ) (x : Step). tapeOutcomeAt (recordedNumber (p .tests) (r .count) (capacity (r .tape)) 1) k r (recordStep r x)) (sym (o .result)) (sym (o .step))
 
-pub record-end : (step : Chip → Step) (n i : ℕ) (r : Recorder) → n ≤ i → recordSteps step (n - i) r ≡ r
-record-end step n i r h = ap (λ (k : ℕ). recordSteps step k r) (let e : n - i ≡ 0 = omega arith in e)
+-- ---- calls that are lent no VRAM
+-- the same outcome beside other VRAM
+abbrev pub beside : List ℕ → TapeOutcome → TapeOutcome
+beside vram o =
+    record {
+      number = o .number;
+      result = o .result;
+      recorder = recorder (o .recorder .chip .state) vram (o .recorder .tape) (o .recorder .count);
+    }
 
-pub record-start : (step : Chip → Step) (n : ℕ) (r : Recorder) → recordSteps step (n - 0) r ≡ recordSteps step n r
-record-start step n r = ap (λ (k : ℕ). recordSteps step k r) (let e : n - 0 ≡ n = omega arith in e)
+pub off-vram : (s : State) (vram : List ℕ) (x : Store) → OffVram x → (present (chip s []) x ≡ present (chip s vram) x) × (storedIn vram x ≡ vram)
+off-vram s vram Nothing h = (refl, refl)
+off-vram s vram (Vram place w) h = absurd h
+off-vram s vram (Cram i w) h = (refl, refl)
+off-vram s vram (Vsram i w) h = (refl, refl)
+off-vram s vram (Register i b) h = (refl, refl)
 
+-- a step that leaves VRAM alone is recorded alike beside any VRAM
+pub beside-vram : (vram : List ℕ) (s : State) (tape : List ℕ) (count : ℕ) (t : Step) (number result : ℕ) → OffVram (t .store) → beside vram (tapeOutcomeAt number result (recorder s [] tape count) (recordStep (recorder s [] tape count) t)) ≡ tapeOutcomeAt number result (recorder s vram tape count) (recordStep (recorder s vram tape count) t)
+unfolding recordStep perform undoing
+beside-vram vram s tape count t number result off =
+    let o = off-vram s vram (t .store) off in by-cases (eqb number 0) (λ e. simp (e, o .0, o .1)) (λ e. simp e)
+
+-- a control word stores a register or nothing
+pub control-off : (s : State) (w : ℕ) → OffVram (controlStep s w .store)
+unfolding controlStep
+control-off s w =
+    let Off : Step → Type 0 = λ t. OffVram (t .store) in
+    by-cond Off (s .control .port .pending) _ _ (λ e. tt)
+    (λ e. by-cond Off (eqb (w / 16384) 2) _ _ (λ f. by-cond Off (ltb (w / 256 % 32) 24) _ _ (λ h. tt) (λ h. tt)) (λ f. tt))
+
+-- ---- loops over the records of a tape
 module _ (tape : List ℕ) (top left : ℕ) where
   -- the part of a tape that a record is
   pub record-part : take (32 * (top - 1) + 32 - 32 * (top - 1)) (drop (32 * (top - 1)) tape) ≡ recordAt tape (top - 1)
@@ -64,14 +85,6 @@ module _ (tape : List ℕ) (top left : ℕ) where
 
   pub good-turn : 0 < left → topGood tape top left ≡ (goodRecord (recordAt tape (top - 1)) && topGood tape (top - 1) (left - 1))
   good-turn h = ap (topGood tape top) (one-less h)
-
--- ---- refused and done
-module _ (result : ℕ) (before after : Recorder) where
-  pub replied-refused : (n m : ℕ) → n ≡ m → (n ≡ 0 → ⊥) → record { number = n; result = 0; recorder = before } ≡ replied m result before after
-  replied-refused n m e h = sym (simp (ne-eqb n 0 h)) ∙ ap (λ (k : ℕ). replied k result before after) e
-
-  pub replied-done : (n m : ℕ) → n ≡ m → n ≡ 0 → record { number = 0; result = result; recorder = after } ≡ replied m result before after
-  replied-done n m e z = sym (simp (sym e ∙ z))
 
 -- a step back that is not refused has its records on the tape
 pub back-accepted : (r : Recorder) (k : ℕ) → backNumber r k ≡ 0 → (k ≤ r .count) × (r .count ≤ capacity (r .tape))

@@ -1,10 +1,12 @@
--- Records on a tape: a new one is read where it was written, and those below it stay.
-use Prim.Native.Nat.{ℕ, _+_, _-_, _*_, _<_, _≤_}
-use mathlib.Core.Path.{_≡_, refl, sym, ap, ap₂, _∙_}
+-- Records on a tape: a new one is read where it was written, and those below it stay; the loop that stores one.
+use Prim.Native.Nat.{ℕ, suc, _+_, _-_, _*_, _<_, _≤_}
+use mathlib.Core.Path.{_≡_, sym, ap, ap₂, _∙_}
 use mathlib.Core.List.{List, _++_, append-assoc}
+use native.Mathlib.Nat.{add-zero}
+use native.Mathlib.Numerals.{add-one}
 use native.Mathlib.Omega.{arith}
-use lib.ListN.{length, take, drop, take-append-drop, length-drop}
-use lib.Seq.{sets, sets-eq, length-take-le, drop-append-le, take-append-le, drop-at, take-at}
+use lib.ListN.{length, getD, take, drop, set, take-append-drop, length-drop, drop-of-length-le}
+use lib.Seq.{drop-cons, sets, sets-eq, length-take-le, drop-append-le, take-append-le, drop-at, take-at}
 use Rattle.vdp_tape.specs.Record.{recordAt}
 
 module _ (tape bytes : List ℕ) (count : ℕ) (long : length bytes ≡ 32) (room : 32 * count + 32 ≤ length tape) where
@@ -34,3 +36,16 @@ module _ (tape bytes : List ℕ) (count : ℕ) (long : length bytes ≡ 32) (roo
   record-kept i h =
       ap (λ (l : List ℕ). recordAt l i) written ∙ below _ i h
       ∙ sym (ap (λ (l : List ℕ). recordAt l i) (sym (take-append-drop place tape)) ∙ below (drop place tape) i h)
+
+-- ---- bytes stored one after the other
+module _ (l : List ℕ) (at : ℕ) (bytes : List ℕ) where
+  pub sets-start : sets l (at + 0) (drop 0 bytes) ≡ sets l at bytes
+  sets-start = ap (λ (j : ℕ). sets l j bytes) (add-zero at)
+
+  pub sets-turn : (i : ℕ) → i < length bytes → sets (set l (at + i) (getD bytes i 0)) (at + (i + 1)) (drop (i + 1) bytes) ≡ sets l (at + i) (drop i bytes)
+  sets-turn i h =
+      let next : at + (i + 1) ≡ suc (at + i) = omega arith in
+      sym (ap (sets l (at + i)) (drop-cons bytes i 0 h) ∙ ap₂ (λ (j k : ℕ). sets (set l (at + i) (getD bytes i 0)) j (drop k bytes)) (sym next) (sym (add-one i)))
+
+  pub sets-end : (i : ℕ) → length bytes ≤ i → sets l (at + i) (drop i bytes) ≡ l
+  sets-end i h = ap (sets l (at + i)) (drop-of-length-le bytes h)

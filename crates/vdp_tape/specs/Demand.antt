@@ -1,47 +1,35 @@
 -- Demand 3: for every sequence of calls, what the functions give is what the book gives, after each call.
-use Prim.Native.Nat.{ℕ, _*_, _<_}
+use Prim.Native.Nat.{ℕ, suc, _<_}
 use mathlib.Core.Path.{_≡_}
 use mathlib.Core.List.{List, [], _∷_}
-use lib.ListN.{length}
+use lib.ListN.{length, getD}
 use Rattle.vdp_state.specs.declared.state.State.{State}
-use Rattle.vdp_state.specs.Range.{Bytes, GoodChip}
-use Rattle.vdp_state.specs.State.{Chip, chip}
-use Rattle.vdp_tape.specs.Book.{Call, ControlWrite, ControlWriteByte, DataWrite, DataWriteByte, DataRead, StatusRead, NewFrame, Run, StepBack, Book, newBook, Entry, enter}
+use Rattle.vdp_state.specs.Range.{AllBytes, GoodChip}
+use Rattle.vdp_state.specs.State.{chip}
+use Rattle.vdp_tape.specs.Book.{Act, Make, StepBack, Book, newBook, BookOutcome, enter}
 use Rattle.vdp_tape.specs.Number.{capacity}
-use Rattle.vdp_tape.specs.Recorded.{controlPlan, dataWritePlan, dataReadPlan, statusPlan, framePlan, runPlan}
-use Rattle.vdp_tape.specs.Recorder.{Recorder, recorder, Plan, Reply, recordedBy, beside}
+use Rattle.vdp_tape.specs.Recorded.{ControlWrite, DataWrite, DataRead, StatusRead, NewFrame, Run, recorded}
+use Rattle.vdp_tape.specs.Recorder.{Recorder, recorder, TapeOutcome}
 use Rattle.vdp_tape.specs.StepBack.{stepBack}
 
--- what the functions of `calls` and `step_back` give by their contracts; a call that is lent no VRAM leaves the caller's
-abbrev pub withoutVram : (Chip → Plan) → Recorder → Reply
-withoutVram plan r = beside (r .chip .vram) (recordedBy (plan (chip (r .chip .state) [])) (recorder (r .chip .state) [] (r .tape) (r .count)))
-
-abbrev pub serve : Call → Recorder → Reply
-serve (ControlWrite w) r = withoutVram (controlPlan w) r
-serve (ControlWriteByte x) r = withoutVram (controlPlan (257 * x)) r
-serve (DataWrite w) r = recordedBy (dataWritePlan w (r .chip)) r
-serve (DataWriteByte x) r = recordedBy (dataWritePlan (257 * x) (r .chip)) r
-serve DataRead r = recordedBy (dataReadPlan (r .chip)) r
-serve StatusRead r = withoutVram statusPlan r
-serve NewFrame r = withoutVram framePlan r
-serve (Run cartridge ram budget) r = recordedBy (runPlan cartridge ram budget (r .chip)) r
+-- what the functions give: `recorded` and `stepBack` are what the contracts of `calls` and `step_back` cite
+abbrev pub serve : Act → Recorder → TapeOutcome
+serve (Make call) r = recorded call r
 serve (StepBack k) r = stepBack r k
 
 -- the numbers and bytes of a call fit their types
-abbrev pub Fits : Call → Type 0
-Fits (ControlWrite w) = w < 65536
-Fits (ControlWriteByte x) = x < 256
-Fits (DataWrite w) = w < 65536
-Fits (DataWriteByte x) = x < 256
-Fits DataRead = Unit {0}
-Fits StatusRead = Unit {0}
-Fits NewFrame = Unit {0}
-Fits (Run cartridge ram budget) = Bytes cartridge × Bytes ram
+abbrev pub Fits : Act → Type 0
+Fits (Make (ControlWrite w)) = w < 65536
+Fits (Make (DataWrite w)) = w < 65536
+Fits (Make DataRead) = Unit {0}
+Fits (Make StatusRead) = Unit {0}
+Fits (Make NewFrame) = Unit {0}
+Fits (Make (Run cartridge ram budget)) = AllBytes cartridge × AllBytes ram
 Fits (StepBack k) = Unit {0}
 
-abbrev pub AllFit : List Call → Type 0
+abbrev pub AllFit : List Act → Type 0
 AllFit [] = Unit {0}
-AllFit (c ∷ cs) = Fits c × AllFit cs
+AllFit (a ∷ acts) = Fits a × AllFit acts
 
 -- what is seen after a call: the number, the count, the state and VRAM
 pub record Seen : Type 0 where
@@ -50,23 +38,43 @@ pub record Seen : Type 0 where
   pub state : State
   pub vram : List ℕ
 
-abbrev pub seen : Reply → Seen
+abbrev pub seen : TapeOutcome → Seen
 seen o = record { number = o .number; count = o .recorder .count; state = o .recorder .chip .state; vram = o .recorder .chip .vram }
 
-abbrev pub seenInBook : Entry → Seen
+abbrev pub seenInBook : BookOutcome → Seen
 seenInBook e = record { number = e .number; count = length (e .book .pages); state = e .book .present .state; vram = e .book .present .vram }
 
 -- what is seen after each of a sequence of calls, of the functions and of the book
-abbrev pub servedAll : List Call → Recorder → List Seen
+abbrev pub servedAll : List Act → Recorder → List Seen
 servedAll [] r = []
-servedAll (c ∷ cs) r = seen (serve c r) ∷ servedAll cs (serve c r .recorder)
+servedAll (a ∷ acts) r = seen (serve a r) ∷ servedAll acts (serve a r .recorder)
 
-abbrev pub enteredAll : List Call → Book → List Seen
+abbrev pub enteredAll : List Act → Book → List Seen
 enteredAll [] b = []
-enteredAll (c ∷ cs) b = seenInBook (enter c b) ∷ enteredAll cs (enter c b .book)
+enteredAll (a ∷ acts) b = seenInBook (enter a b) ∷ enteredAll acts (enter a b .book)
 
 -- the claim over whole sequences: from every good chip and every tape with count 0, whatever its bytes
 abbrev pub Demand3 : Type 0
 Demand3 =
-    (calls : List Call) → AllFit calls → (s : State) (vram tape : List ℕ) → GoodChip (chip s vram)
-    → servedAll calls (recorder s vram tape 0) ≡ enteredAll calls (newBook (chip s vram) (capacity tape))
+    (acts : List Act) → AllFit acts → (s : State) (vram tape : List ℕ) → GoodChip (chip s vram)
+    → servedAll acts (recorder s vram tape 0) ≡ enteredAll acts (newBook (chip s vram) (capacity tape))
+
+-- the recorder and the book after a sequence of calls
+abbrev pub servedTo : List Act → Recorder → Recorder
+servedTo [] r = r
+servedTo (a ∷ acts) r = servedTo acts (serve a r .recorder)
+
+abbrev pub enteredTo : List Act → Book → Book
+enteredTo [] b = b
+enteredTo (a ∷ acts) b = enteredTo acts (enter a b .book)
+
+-- a page is the chip as it stood before a step that is not taken back. The claim: stepping back k + 1 is accepted where
+-- there are so many pages, and gives the state and VRAM of the k-th below the top, also inside a run
+abbrev pub TakenBack : Recorder → Book → ℕ → Type 0
+TakenBack r b k = (stepBack r (suc k) .number ≡ 0) × (stepBack r (suc k) .recorder .chip ≡ getD (b .pages) k (b .present))
+
+abbrev pub StepBackTakesBack : Type 0
+StepBackTakesBack =
+    (acts : List Act) → AllFit acts → (s : State) (vram tape : List ℕ) → GoodChip (chip s vram) → (k : ℕ)
+    → let b = enteredTo acts (newBook (chip s vram) (capacity tape)) in
+    k < length (b .pages) → TakenBack (servedTo acts (recorder s vram tape 0)) b k

@@ -1,8 +1,7 @@
 -- What the tape adds to a call's refusals: document 01, Numbers a call may answer, The tape.
 use Prim.Native.Nat.{ℕ, _-_, _/_}
-use mathlib.Core.Bool.{Bool, cond}
 use mathlib.Core.List.{List, _∷_}
-use lib.Dec.{eqb, ltb}
+use lib.Dec.{ltb}
 use lib.ListN.{length}
 use Rattle.vdp_state.specs.Answer.{Test, gives, first}
 
@@ -21,7 +20,3 @@ tapeFull count room steps = gives 6 (ltb (room - count) steps)
 -- the tests of a recorded call: those of its plain form, and these two
 abbrev pub recordedNumber : List Test → ℕ → ℕ → ℕ → ℕ
 recordedNumber tests count room steps = first (overCapacity count room ∷ tapeFull count room steps ∷ tests)
-
--- the same number, from that of the plain form: 2 comes right after 1 in the order, and 6 last
-abbrev pub withTape : ℕ → Bool → Bool → ℕ
-withTape plain over full = cond (eqb plain 1) 1 (cond over 2 (cond (eqb plain 0) (cond full 6 0) plain))

@@ -1,7 +1,7 @@
 -- A tape record: the step that undoes a step, in 32 bytes (document 01, The tape). One layout writes and reads it.
-use Prim.Native.Nat.{ℕ, _+_, _*_, _/_, _%_}
-use mathlib.Core.Bool.{Bool, true, false, cond, _&&_}
-use mathlib.Core.List.{List, [], _∷_}
+use Prim.Native.Nat.{ℕ, zero, suc, _+_, _*_, _/_, _%_}
+use mathlib.Core.Bool.{Bool, cond, _&&_}
+use mathlib.Core.List.{List, [], _∷_, _++_}
 use lib.Dec.{eqb}
 use lib.ListN.{getD, take, drop}
 use Rattle.vdp_state.specs.declared.state.Step.{Step}
@@ -9,70 +9,104 @@ use Rattle.vdp_state.specs.declared.state.Store.{Store}
 use Rattle.vdp_state.specs.declared.state.Store.the-variants.{Nothing, Vram, Cram, Vsram, Register}
 use Rattle.vdp_state.specs.Good.{goodControl}
 use Rattle.vdp_state.specs.Range.{goodStore}
-use Rattle.vdp_tape.specs.declared.«record».Cell.{Cell}
+use Rattle.vdp_state.specs.Same.{same}
+use Rattle.vdp_tape.specs.declared.«record».Kept.{Kept}
 
 -- "cell kind 0 none, 1 VRAM word, 2 colour, 3 scroll, 4 register; place; content. Kind 0 has zero place and content."
-abbrev pub cell : ℕ → ℕ → ℕ → Cell
-cell kind place content = record { kind = kind; place = place; content = content }
+abbrev pub kept : ℕ → ℕ → ℕ → Kept
+kept kind place content = record { kind = kind; place = place; content = content }
 
-abbrev pub cellOf : Store → Cell
-cellOf Nothing = cell 0 0 0
-cellOf (Vram place w) = cell 1 place w
-cellOf (Cram i w) = cell 2 i w
-cellOf (Vsram i w) = cell 3 i w
-cellOf (Register i b) = cell 4 i b
+abbrev pub keptOf : Store → Kept
+keptOf Nothing = kept 0 0 0
+keptOf (Vram place w) = kept 1 place w
+keptOf (Cram i w) = kept 2 i w
+keptOf (Vsram i w) = kept 3 i w
+keptOf (Register i b) = kept 4 i b
 
--- the store of a cell; an index has 8 bits, and so has a register's content
-abbrev pub storeOf : Cell → Store
+-- the store of a kept cell; an index has 8 bits, and so has a register's content
+abbrev pub storeOf : Kept → Store
 storeOf c =
     cond (eqb (c .kind) 1) (Vram (c .place) (c .content))
     (cond (eqb (c .kind) 2) (Cram (c .place % 256) (c .content))
     (cond (eqb (c .kind) 3) (Vsram (c .place % 256) (c .content))
     (cond (eqb (c .kind) 4) (Register (c .place % 256) (c .content % 256)) Nothing)))
 
--- a flag as a byte
+-- a flag as a bit
 abbrev pub bit : Bool → ℕ
 bit b = cond b 1 0
 
--- "Big-endian: version 1; length 32 (2 bytes); cell kind; place (2); old content (2); then the state before: address (2),
--- code, pending, DMA kind, remaining (3), source (3), fill byte, flags (1 overflow, 2 collision), 11 zeros."
-abbrev pub recordOf : Step → List ℕ
-recordOf t =
-    let c = cellOf (t .store) in
-    let p = t .control .port in
-    let d = t .control .dma in
-    1 ∷ 0 ∷ 32 ∷ c .kind ∷ (c .place / 256) ∷ (c .place % 256) ∷ (c .content / 256) ∷ (c .content % 256)
-    ∷ (p .address / 256) ∷ (p .address % 256) ∷ p .code ∷ bit (p .pending)
-    ∷ d .kind ∷ (d .remaining / 65536 % 256) ∷ (d .remaining / 256 % 256) ∷ (d .remaining % 256)
-    ∷ (d .source / 65536 % 256) ∷ (d .source / 256 % 256) ∷ (d .source % 256) ∷ d .fill
-    ∷ (bit (t .control .flags .overflow) + 2 * bit (t .control .flags .collision))
-    ∷ 0 ∷ 0 ∷ 0 ∷ 0 ∷ 0 ∷ 0 ∷ 0 ∷ 0 ∷ 0 ∷ 0 ∷ 0 ∷ []
+-- "version 1"
+abbrev pub version : ℕ
+version = 1
 
--- the numbers of two and of three bytes at an index
-abbrev pub twoAt : List ℕ → ℕ → ℕ
-twoAt l i = getD l i 0 * 256 + getD l (i + 1) 0
+-- a field: how many bytes it has, and the number that it holds for a step
+pub record Field : Type 0 where
+  pub width : ℕ
+  pub value : Step → ℕ
 
-abbrev pub threeAt : List ℕ → ℕ → ℕ
-threeAt l i = getD l i 0 * 65536 + getD l (i + 1) 0 * 256 + getD l (i + 2) 0
+abbrev pub field : ℕ → (Step → ℕ) → Field
+field width value = record { width = width; value = value }
 
--- the same places, read
-abbrev pub stepOf : List ℕ → Step
-stepOf l =
+-- "version 1; length 32 (2 bytes); cell kind; place (2); old content (2); then the state before: address (2), code,
+-- pending, DMA kind, remaining (3), source (3), fill byte, flags (1 overflow, 2 collision), 11 zeros"
+abbrev pub layout : List Field
+layout =
+    field 1 (λ t. version)
+    ∷ field 2 (λ t. 32)
+    ∷ field 1 (λ t. keptOf (t .store) .kind)
+    ∷ field 2 (λ t. keptOf (t .store) .place)
+    ∷ field 2 (λ t. keptOf (t .store) .content)
+    ∷ field 2 (λ t. t .control .port .address)
+    ∷ field 1 (λ t. t .control .port .code)
+    ∷ field 1 (λ t. bit (t .control .port .pending))
+    ∷ field 1 (λ t. t .control .dma .kind)
+    ∷ field 3 (λ t. t .control .dma .remaining)
+    ∷ field 3 (λ t. t .control .dma .source)
+    ∷ field 1 (λ t. t .control .dma .fill)
+    ∷ field 1 (λ t. bit (t .control .flags .overflow) + 2 * bit (t .control .flags .collision))
+    ∷ field 11 (λ t. 0)
+    ∷ []
+
+-- the step that the numbers of the fields read as, in the layout's order
+abbrev pub Reading : List Field → Type 0
+Reading [] = Step
+Reading (f ∷ fs) = ℕ → Reading fs
+
+abbrev pub reading : Reading layout
+reading v size kind place content address code pending dma remaining source fill flags zeros =
     record {
       control = record {
-        port = record { address = twoAt l 8; code = getD l 10 0; pending = eqb (getD l 11 0) 1 };
-        dma = record { kind = getD l 12 0; remaining = threeAt l 13; source = threeAt l 16; fill = getD l 19 0 };
-        flags = record { overflow = eqb (getD l 20 0 % 2) 1; collision = eqb (getD l 20 0 / 2 % 2) 1 };
+        port = record { address = address; code = code; pending = eqb pending 1 };
+        dma = record { kind = dma; remaining = remaining; source = source; fill = fill };
+        flags = record { overflow = eqb (flags % 2) 1; collision = eqb (flags / 2 % 2) 1 };
       };
-      store = storeOf (cell (getD l 3 0) (twoAt l 4) (twoAt l 6));
+      store = storeOf (kept kind place content);
     }
 
--- the same bytes
-abbrev pub same : List ℕ → List ℕ → Bool
-same [] [] = true
-same [] (y ∷ ys) = false
-same (x ∷ xs) [] = false
-same (x ∷ xs) (y ∷ ys) = eqb x y && same xs ys
+-- "Big-endian": a number in so many bytes, and the number of so many bytes at an index
+abbrev pub bytesOf : ℕ → ℕ → List ℕ
+bytesOf zero n = []
+bytesOf (suc width) n = bytesOf width (n / 256) ++ (n % 256 ∷ [])
+
+abbrev pub numberAt : List ℕ → ℕ → ℕ → ℕ
+numberAt l i zero = 0
+numberAt l i (suc zero) = getD l i 0
+numberAt l i (suc (suc width)) = numberAt l i (suc width) * 256 + getD l (i + suc width) 0
+
+-- a record: its fields one after the other, written and read
+abbrev pub written : List Field → Step → List ℕ
+written [] t = []
+written (f ∷ fs) t = bytesOf (f .width) (f .value t) ++ written fs t
+
+abbrev pub recordOf : Step → List ℕ
+recordOf t = written layout t
+
+abbrev pub readFrom : (fs : List Field) → Reading fs → ℕ → List ℕ → Step
+readFrom [] t i l = t
+readFrom (f ∷ fs) r i l = readFrom fs (r (numberAt l i (f .width))) (i + f .width) l
+
+abbrev pub stepOf : List ℕ → Step
+stepOf l = readFrom layout reading 0 l
 
 -- "A good record keeps these ranges and those of GOOD; every other is bad": its bytes are those of the step that they
 -- read as, and that step is in range

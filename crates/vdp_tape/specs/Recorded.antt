@@ -1,35 +1,64 @@
 -- The recorded calls: the plain form's work and one record for each step (document 01, The tape).
-use Prim.Native.Nat.{ℕ, _*_}
+use Prim.Native.Nat.{ℕ}
+use mathlib.Core.Path.{_≡_}
 use mathlib.Core.List.{List}
+use Rattle.vdp_state.specs.declared.state.Step.{Step}
+use Rattle.vdp_state.specs.Answer.{Test, Outcome, outcome}
 use Rattle.vdp_state.specs.State.{Chip}
-use Rattle.vdp_ports.specs.Control.{controlTests, controlStep}
-use Rattle.vdp_ports.specs.Data.{dataTests, dataWriteStep, dataReadStep, dataWord}
-use Rattle.vdp_ports.specs.Frame.{frameTests, frameStep}
-use Rattle.vdp_ports.specs.Status.{statusTests, statusStep, statusWord}
-use Rattle.vdp_dma.specs.Run.{runTests, unitsMade}
+use Rattle.vdp_ports.specs.Control.{controlTests, controlStep, controlWrite}
+use Rattle.vdp_ports.specs.Data.{dataTests, dataWriteStep, dataReadStep, dataWord, dataWrite, dataRead}
+use Rattle.vdp_ports.specs.Frame.{frameTests, frameStep, newFrame}
+use Rattle.vdp_ports.specs.Status.{statusTests, statusStep, statusWord, statusRead}
+use Rattle.vdp_dma.specs.Run.{runTests, unitsMade, run}
 use Rattle.vdp_dma.specs.Unit.{unit}
-use Rattle.vdp_tape.specs.Recorder.{Plan}
+use Rattle.vdp_tape.specs.Recorder.{Recorder, Plan, TapeOutcome, recordedBy}
 
-abbrev pub controlPlan : ℕ → Chip → Plan
-controlPlan w c = record { tests = controlTests (c .state); result = 0; steps = 1; step = λ x. controlStep (x .state) w }
+-- a recorded call with its arguments; "Cartridge, work RAM [..] may be others at each call". A byte write is the write of
+-- its `byteWord`.
+pub data Call : Type 0 where
+  ControlWrite : ℕ → Call
+  DataWrite : ℕ → Call
+  DataRead : Call
+  StatusRead : Call
+  NewFrame : Call
+  Run : List ℕ → List ℕ → ℕ → Call
 
-abbrev pub dataWritePlan : ℕ → Chip → Plan
-dataWritePlan w c = record { tests = dataTests c; result = 0; steps = 1; step = λ x. dataWriteStep (x .state) w }
+-- "Each port access, DMA unit, line and new frame is one step"
+abbrev pub once : List Test → ℕ → (Chip → Step) → Plan
+once tests result step = record { tests = tests; result = result; steps = 1; step = step }
 
-abbrev pub dataReadPlan : Chip → Plan
-dataReadPlan c = record { tests = dataTests c; result = dataWord c; steps = 1; step = λ x. dataReadStep (x .state) }
-
-abbrev pub statusPlan : Chip → Plan
-statusPlan c = record { tests = statusTests (c .state); result = statusWord (c .state); steps = 1; step = λ x. statusStep (x .state) }
-
-abbrev pub framePlan : Chip → Plan
-framePlan c = record { tests = frameTests (c .state); result = 0; steps = 1; step = λ x. frameStep (x .state) }
-
-abbrev pub runPlan : List ℕ → List ℕ → ℕ → Chip → Plan
-runPlan cartridge ram budget c =
+-- "its recorded form does the plain form's work"
+abbrev pub planOf : Call → Chip → Plan
+planOf (ControlWrite w) c = once (controlTests (c .state)) 0 (λ x. controlStep (x .state) w)
+planOf (DataWrite w) c = once (dataTests c) 0 (λ x. dataWriteStep (x .state) w)
+planOf DataRead c = once (dataTests c) (dataWord c) (λ x. dataReadStep (x .state))
+planOf StatusRead c = once (statusTests (c .state)) (statusWord (c .state)) (λ x. statusStep (x .state))
+planOf NewFrame c = once (frameTests (c .state)) 0 (λ x. frameStep (x .state))
+planOf (Run cartridge ram budget) c =
     record {
       tests = runTests c cartridge ram budget;
       result = unitsMade (c .state) budget;
       steps = unitsMade (c .state) budget;
       step = unit cartridge ram;
     }
+
+-- what a recorded call leaves
+abbrev pub recorded : Call → Recorder → TapeOutcome
+recorded call r = recordedBy (planOf call (r .chip)) r
+
+-- what the plain form of a call leaves; those that are lent no VRAM leave it as it is
+abbrev pub plainOf : Call → Chip → Outcome
+plainOf (ControlWrite w) c = outcome (controlWrite (c .state) w) (c .vram)
+plainOf (DataWrite w) c = dataWrite c w
+plainOf DataRead c = outcome (dataRead c) (c .vram)
+plainOf StatusRead c = outcome (statusRead (c .state)) (c .vram)
+plainOf NewFrame c = outcome (newFrame (c .state)) (c .vram)
+plainOf (Run cartridge ram budget) c = run c cartridge ram budget
+
+-- an outcome without its tape
+abbrev pub withoutTape : TapeOutcome → Outcome
+withoutTape o = outcome (record { number = o .number; result = o .result; state = o .recorder .chip .state }) (o .recorder .chip .vram)
+
+-- the claim: a recorded call that is accepted leaves the chip and the result of the plain call
+abbrev pub RecordedAsPlain : Type 0
+RecordedAsPlain = (call : Call) (r : Recorder) → recorded call r .number ≡ 0 → withoutTape (recorded call r) ≡ plainOf call (r .chip)

@@ -1,16 +1,16 @@
 -- What a caller of recorded calls holds from call to call, and a step recorded: document 01, The tape.
-use Prim.Native.Nat.{ℕ, zero, suc, _+_, _-_, _*_}
+use Prim.Native.Nat.{ℕ, _+_, _*_}
 use mathlib.Core.Bool.{cond}
 use mathlib.Core.List.{List}
-use lib.Dec.{eqb, ltb}
+use lib.Dec.{eqb}
 use lib.Seq.{sets}
 use Rattle.vdp_state.specs.declared.state.State.{State}
 use Rattle.vdp_state.specs.declared.state.Step.{Step}
 use Rattle.vdp_state.specs.Answer.{Test}
-use Rattle.vdp_state.specs.Cell.{perform, undoing}
+use Rattle.vdp_state.specs.Cell.{perform, undoing, iterate}
 use Rattle.vdp_state.specs.State.{Chip, chip}
-use Rattle.vdp_tape.specs.declared.recorder.Recorded.{Recorded}
-use Rattle.vdp_tape.specs.Number.{capacity, recordedNumber, withTape}
+use Rattle.vdp_tape.specs.declared.recorder.TapeAnswer.{TapeAnswer}
+use Rattle.vdp_tape.specs.Number.{capacity, recordedNumber}
 use Rattle.vdp_tape.specs.Record.{recordOf}
 
 -- a chip, a tape, and how many records stand on it
@@ -32,9 +32,11 @@ recordStep r t =
     }
 
 -- n steps recorded one after the other, each decided by the chip as the last one left it
+abbrev pub recordNext : (Chip → Step) → Recorder → Recorder
+recordNext step r = recordStep r (step (r .chip))
+
 abbrev pub recordSteps : (Chip → Step) → ℕ → Recorder → Recorder
-recordSteps step zero r = r
-recordSteps step (suc n) r = recordSteps step n (recordStep r (step (r .chip)))
+recordSteps step n r = iterate (recordNext step) n r
 
 -- what a recorded call is: the tests of its plain form, its result, and its steps
 pub record Plan : Type 0 where
@@ -44,35 +46,21 @@ pub record Plan : Type 0 where
   pub step : Chip → Step
 
 -- what a recorded call leaves
-pub record Reply : Type 0 where
+pub record TapeOutcome : Type 0 where
   pub number : ℕ
   pub result : ℕ
   pub recorder : Recorder
 
-abbrev pub reply : Recorded → List ℕ → List ℕ → Reply
-reply r vram tape = record { number = r .number; result = r .result; recorder = recorder (r .state) vram tape (r .count) }
+abbrev pub tapeOutcome : TapeAnswer → List ℕ → List ℕ → TapeOutcome
+tapeOutcome r vram tape = record { number = r .number; result = r .result; recorder = recorder (r .state) vram tape (r .count) }
 
 -- a call that answers n: at 0 it leaves what its steps left, else "the state and count as they came, zero for every other
 -- result", and the rest untouched
-abbrev pub replied : ℕ → ℕ → Recorder → Recorder → Reply
-replied n result before after =
+abbrev pub tapeOutcomeAt : ℕ → ℕ → Recorder → Recorder → TapeOutcome
+tapeOutcomeAt n result before after =
     cond (eqb n 0) (record { number = 0; result = result; recorder = after })
     (record { number = n; result = 0; recorder = before })
 
-abbrev pub recordedBy : Plan → Recorder → Reply
+abbrev pub recordedBy : Plan → Recorder → TapeOutcome
 recordedBy p r =
-    replied (recordedNumber (p .tests) (r .count) (capacity (r .tape)) (p .steps)) (p .result) r (recordSteps (p .step) (p .steps) r)
-
--- a recorded call of one step, from the plain form's number
-abbrev pub oneStep : ℕ → ℕ → Recorder → Step → Reply
-oneStep plain result r t =
-    replied (withTape plain (ltb (capacity (r .tape)) (r .count)) (ltb (capacity (r .tape) - r .count) 1)) result r (recordStep r t)
-
--- the same reply beside other VRAM: what a call that is lent no VRAM comes to for a caller that holds some
-abbrev pub beside : List ℕ → Reply → Reply
-beside vram o =
-    record {
-      number = o .number;
-      result = o .result;
-      recorder = recorder (o .recorder .chip .state) vram (o .recorder .tape) (o .recorder .count);
-    }
+    tapeOutcomeAt (recordedNumber (p .tests) (r .count) (capacity (r .tape)) (p .steps)) (p .result) r (recordSteps (p .step) (p .steps) r)

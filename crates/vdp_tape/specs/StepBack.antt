@@ -9,7 +9,7 @@ use Rattle.vdp_state.specs.State.{Chip}
 use Rattle.vdp_ports.specs.Refusal.{badState, badVram}
 use Rattle.vdp_tape.specs.Number.{capacity, overCapacity}
 use Rattle.vdp_tape.specs.Record.{stepOf, goodRecord, recordAt}
-use Rattle.vdp_tape.specs.Recorder.{Recorder, Reply, replied}
+use Rattle.vdp_tape.specs.Recorder.{Recorder, TapeOutcome, tapeOutcomeAt}
 
 -- the top k of n records are good
 abbrev pub topGood : List ℕ → ℕ → ℕ → Bool
@@ -36,6 +36,6 @@ abbrev pub backNumber : Recorder → ℕ → ℕ
 backNumber r k = first (badRecord (r .tape) (r .count) k ∷ backTests (r .chip) (r .count) (capacity (r .tape)) k)
 
 -- "Step back lowers the count by k; no tape byte changes."
-abbrev pub stepBack : Recorder → ℕ → Reply
+abbrev pub stepBack : Recorder → ℕ → TapeOutcome
 stepBack r k =
-    replied (backNumber r k) 0 r (record { chip = undo (r .tape) (r .count) k (r .chip); tape = r .tape; count = r .count - k })
+    tapeOutcomeAt (backNumber r k) 0 r (record { chip = undo (r .tape) (r .count) k (r .chip); tape = r .tape; count = r .count - k })

@@ -1,8 +1,7 @@
 // What the tape adds to a call's refusals (document 01, Numbers a call may answer).
 ghost use mathlib.Core.Path.{_≡_};
-ghost use Prim.Native.Nat.{_-_};
-ghost use lib.Dec.{ltb};
-ghost use Rattle.vdp_tape.specs.Number.{capacity as capacityOf, withTape};
+ghost use Rattle.vdp_tape.specs.Number.{capacity as capacityOf};
+ghost use Rattle.vdp_tape.specs.OneStep.{Numbered};
 use vdp_state::answer::BAD_BUFFER;
 use vdp_state::answer::BAD_STATE;
 use vdp_state::answer::DONE;
@@ -19,7 +18,7 @@ pub fn capacity(tape: &[u8]) -> usize
 
 // The number of a recorded call of so many steps, from that of its plain form.
 pub fn with_tape(plain: u8, tape: &[u8], count: usize, steps: u32) -> u8
-    ensures { λ r. ⌜ r ≡ withTape plain (ltb (capacityOf (now (tape .entry))) count) (ltb (capacityOf (now (tape .entry)) - count) steps) ⌝ }
+    ensures { λ r. ⌜ Numbered plain count (capacityOf (now (tape .entry))) steps r ⌝ }
 {
     let room = capacity(tape);
     if plain == BAD_STATE {

@@ -1,8 +1,9 @@
 // A tape record (document 01, The tape): the step that undoes a step, in 32 bytes.
 ghost use mathlib.Core.Path.{_≡_};
 ghost use Prim.Native.Nat.{_+_, _*_};
-ghost use Rattle.vdp_tape.specs.Record.{cellOf, storeOf, bit as bitOf, recordOf, twoAt, threeAt, stepOf, same as sameBytes, goodRecord};
+ghost use Rattle.vdp_tape.specs.Record.{keptOf, storeOf, bit as bitOf, numberAt, recordOf, stepOf, goodRecord};
 ghost use Rattle.vdp_state.specs.Range.{goodStore};
+ghost use Rattle.vdp_state.specs.Same.{same as sameBytes};
 use vdp_state::cell::byte_at;
 use vdp_state::cell::joined;
 use vdp_state::colour::colour_word;
@@ -14,38 +15,63 @@ use vdp_state::state::Port;
 use vdp_state::state::Step;
 use vdp_state::state::Store;
 
-// A cell's kind, place and content, as a record has them.
-pub struct Cell {
+// The layout: the version, and where the fields stand that are read.
+const VERSION: u8 = 1;
+
+const KEPT_KIND: u8 = 3;
+
+const PLACE: u8 = 4;
+
+const CONTENT: u8 = 6;
+
+const ADDRESS: u8 = 8;
+
+const CODE: u8 = 10;
+
+const PENDING: u8 = 11;
+
+const DMA_KIND: u8 = 12;
+
+const REMAINING: u8 = 13;
+
+const SOURCE: u8 = 16;
+
+const FILL: u8 = 19;
+
+const FLAGS: u8 = 20;
+
+// A cell's kind, place and content, as a record keeps them.
+pub struct Kept {
     pub kind: u8,
     pub place: u16,
     pub content: u16,
 }
 
-fn cell_of(store: Store) -> Cell
-    ensures { λ r. ⌜ r ≡ cellOf store ⌝ }
+fn kept_of(store: Store) -> Kept
+    ensures { λ r. ⌜ r ≡ keptOf store ⌝ }
 {
     match store {
-        Store::Nothing => Cell {
+        Store::Nothing => Kept {
             kind: 0,
             place: 0,
             content: 0,
         },
-        Store::Vram(place, w) => Cell {
+        Store::Vram(place, w) => Kept {
             kind: 1,
             place,
             content: w,
         },
-        Store::Cram(i, w) => Cell {
+        Store::Cram(i, w) => Kept {
             kind: 2,
             place: i as u16,
             content: w,
         },
-        Store::Vsram(i, w) => Cell {
+        Store::Vsram(i, w) => Kept {
             kind: 3,
             place: i as u16,
             content: w,
         },
-        Store::Register(i, b) => Cell {
+        Store::Register(i, b) => Kept {
             kind: 4,
             place: i as u16,
             content: b as u16,
@@ -53,7 +79,7 @@ fn cell_of(store: Store) -> Cell
     }
 }
 
-fn store_of(c: Cell) -> Store
+fn store_of(c: Kept) -> Store
     ensures { λ r. ⌜ r ≡ storeOf c ⌝ }
 {
     let kind = c.kind;
@@ -89,29 +115,29 @@ pub fn record_of(t: Step) -> [u8; 32]
     ensures { λ r. ⌜ r ≡ recordOf t ⌝ }
 {
     let store = t.store;
-    let c = cell_of(store);
+    let c = kept_of(store);
     let p = t.control.port;
     let d = t.control.dma;
     let pending = bit(p.pending);
     let flags = flag_byte(t.control.flags);
     [
-        1,
+        VERSION,
         0,
         32,
         c.kind,
-        (c.place / 256) as u8,
+        (c.place / 256 % 256) as u8,
         (c.place % 256) as u8,
-        (c.content / 256) as u8,
+        (c.content / 256 % 256) as u8,
         (c.content % 256) as u8,
-        (p.address / 256) as u8,
+        (p.address / 256 % 256) as u8,
         (p.address % 256) as u8,
         p.code,
         pending,
         d.kind,
-        (d.remaining / 65536 % 256) as u8,
+        (d.remaining / 256 / 256 % 256) as u8,
         (d.remaining / 256 % 256) as u8,
         (d.remaining % 256) as u8,
-        (d.source / 65536 % 256) as u8,
+        (d.source / 256 / 256 % 256) as u8,
         (d.source / 256 % 256) as u8,
         (d.source % 256) as u8,
         d.fill,
@@ -130,21 +156,27 @@ pub fn record_of(t: Step) -> [u8; 32]
     ]
 }
 
+fn one_at(bytes: &[u8], i: u8) -> u8
+    ensures { λ r. ⌜ r ≡ numberAt (now (bytes .entry)) i 1 ⌝ }
+{
+    byte_at(bytes, i as usize)
+}
+
 fn two_at(bytes: &[u8], i: u8) -> u16
-    ensures { λ r. ⌜ r ≡ twoAt (now (bytes .entry)) i ⌝ }
+    ensures { λ r. ⌜ r ≡ numberAt (now (bytes .entry)) i 2 ⌝ }
 {
     let at = i as usize;
     joined(byte_at(bytes, at), byte_at(bytes, at + 1))
 }
 
 fn joined_three(high: u8, middle: u8, low: u8) -> u32
-    ensures { λ r. ⌜ r ≡ high * 65536 + middle * 256 + low ⌝ }
+    ensures { λ r. ⌜ r ≡ (high * 256 + middle) * 256 + low ⌝ }
 {
-    (high as u32) * 65536 + (middle as u32) * 256 + (low as u32)
+    ((high as u32) * 256 + (middle as u32)) * 256 + (low as u32)
 }
 
 fn three_at(bytes: &[u8], i: u8) -> u32
-    ensures { λ r. ⌜ r ≡ threeAt (now (bytes .entry)) i ⌝ }
+    ensures { λ r. ⌜ r ≡ numberAt (now (bytes .entry)) i 3 ⌝ }
 {
     let at = i as usize;
     joined_three(
@@ -157,18 +189,18 @@ fn three_at(bytes: &[u8], i: u8) -> u32
 fn control_of(bytes: &[u8]) -> Control
     ensures { λ r. ⌜ r ≡ stepOf (now (bytes .entry)) .control ⌝ }
 {
-    let flags = byte_at(bytes, 20);
+    let flags = one_at(bytes, FLAGS);
     Control {
         port: Port {
-            address: two_at(bytes, 8),
-            code: byte_at(bytes, 10),
-            pending: byte_at(bytes, 11) == 1,
+            address: two_at(bytes, ADDRESS),
+            code: one_at(bytes, CODE),
+            pending: one_at(bytes, PENDING) == 1,
         },
         dma: Dma {
-            kind: byte_at(bytes, 12),
-            remaining: three_at(bytes, 13),
-            source: three_at(bytes, 16),
-            fill: byte_at(bytes, 19),
+            kind: one_at(bytes, DMA_KIND),
+            remaining: three_at(bytes, REMAINING),
+            source: three_at(bytes, SOURCE),
+            fill: one_at(bytes, FILL),
         },
         flags: Flags {
             overflow: flags % 2 == 1,
@@ -181,14 +213,14 @@ fn control_of(bytes: &[u8]) -> Control
 pub fn step_of(bytes: &[u8]) -> Step
     ensures { λ r. ⌜ r ≡ stepOf (now (bytes .entry)) ⌝ }
 {
-    let cell = Cell {
-        kind: byte_at(bytes, 3),
-        place: two_at(bytes, 4),
-        content: two_at(bytes, 6),
+    let kept = Kept {
+        kind: one_at(bytes, KEPT_KIND),
+        place: two_at(bytes, PLACE),
+        content: two_at(bytes, CONTENT),
     };
     Step {
         control: control_of(bytes),
-        store: store_of(cell),
+        store: store_of(kept),
     }
 }
 

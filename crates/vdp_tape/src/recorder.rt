@@ -3,9 +3,12 @@ ghost use mathlib.Core.Path.{_≡_};
 ghost use Prim.Native.Nat.{_+_, _<_, _≤_};
 ghost use lib.ListN.{length};
 ghost use lib.Seq.{sets};
+ghost use Rattle.vdp_state.specs.State.{chip};
 ghost use Rattle.vdp_tape.specs.Number.{capacity};
-ghost use Rattle.vdp_tape.specs.Recorder.{recorder, recordStep, reply, replied};
+ghost use Rattle.vdp_tape.specs.OneStep.{OneStep};
+ghost use Rattle.vdp_tape.specs.Recorder.{Plan, recorder, recordStep, tapeOutcome, recordedBy};
 use crate::number::RECORD_SIZE;
+use crate::number::with_tape;
 use crate::record::record_of;
 use vdp_state::answer::DONE;
 use vdp_state::cell::perform;
@@ -14,7 +17,7 @@ use vdp_state::state::State;
 use vdp_state::state::Step;
 
 // The answer of a recorded call and of a step back: as the plain one, with the count of records.
-pub struct Recorded {
+pub struct TapeAnswer {
     pub number: u8,
     pub result: u32,
     pub count: usize,
@@ -41,35 +44,38 @@ pub(crate) fn record_step(
     t: Step,
 ) -> State
     requires { ⌜ count < capacity (now tape) ⌝ }
-    ensures { λ r. ⌜ recorder r (now (vram .exit)) (now (tape .exit)) (count + 1) ≡ recordStep (recorder s (now (vram .entry)) (now (tape .entry)) count) t ⌝ }
+    ensures { λ r. ⌜ recorder r (now (vram .exit)) (now (tape .exit)) (count + 1)
+        ≡ recordStep (recorder s (now (vram .entry)) (now (tape .entry)) count) t ⌝ }
 {
     let bytes = record_of(undoing(s, vram, t));
     put_record(tape, RECORD_SIZE * count, &bytes);
     perform(s, vram, t)
 }
 
-// A recorded call of one step.
+// A recorded call of one step, from the number, the step and the result of its plain form.
 pub(crate) fn record_one(
-    number: u8,
+    plain: u8,
     s: State,
     vram: &mut [u8],
     tape: &mut [u8],
     count: usize,
     t: Step,
     result: u32,
-) -> Recorded
-    requires { ⌜ (number ≡ 0 → count < capacity (now tape)) ⌝ }
-    ensures { λ r. ⌜ reply r (now (vram .exit)) (now (tape .exit)) ≡ replied number result (recorder s (now (vram .entry)) (now (tape .entry)) count) (recordStep (recorder s (now (vram .entry)) (now (tape .entry)) count) t) ⌝ }
+) -> TapeAnswer
+    ensures { λ r. ⌜ ((p : Plan) → OneStep p (chip s (now (vram .entry))) plain result t
+        → tapeOutcome r (now (vram .exit)) (now (tape .exit))
+        ≡ recordedBy p (recorder s (now (vram .entry)) (now (tape .entry)) count)) ⌝ }
 {
+    let number = with_tape(plain, tape, count, 1);
     if number != DONE {
-        return Recorded {
+        return TapeAnswer {
             number,
             result: 0,
             count,
             state: s,
         };
     }
-    Recorded {
+    TapeAnswer {
         number: DONE,
         result,
         count: count + 1,

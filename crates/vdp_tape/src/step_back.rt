@@ -3,13 +3,13 @@ ghost use mathlib.Core.Path.{_≡_};
 ghost use Prim.Native.Nat.{_≤_};
 ghost use Rattle.vdp_state.specs.State.{chip};
 ghost use Rattle.vdp_tape.specs.Number.{capacity as capacityOf};
-ghost use Rattle.vdp_tape.specs.Recorder.{recorder, reply};
+ghost use Rattle.vdp_tape.specs.Recorder.{recorder, tapeOutcome};
 ghost use Rattle.vdp_tape.specs.StepBack.{topGood, undo as undone, backNumber, stepBack};
 use crate::number::RECORD_SIZE;
 use crate::number::capacity;
 use crate::record::good_record;
 use crate::record::step_of;
-use crate::recorder::Recorded;
+use crate::recorder::TapeAnswer;
 use vdp_ports::refusal::VRAM_SIZE;
 use vdp_state::answer::BAD_BUFFER;
 use vdp_state::answer::BAD_RECORD;
@@ -79,19 +79,20 @@ fn back_number(s: State, vram: &[u8], tape: &[u8], count: usize, k: usize) -> u8
 }
 
 // Takes back the last k steps.
-pub fn step_back(s: State, vram: &mut [u8], tape: &[u8], count: usize, k: usize) -> Recorded
-    ensures { λ r. ⌜ reply r (now (vram .exit)) (now (tape .entry)) ≡ stepBack (recorder s (now (vram .entry)) (now (tape .entry)) count) k ⌝ }
+pub fn step_back(s: State, vram: &mut [u8], tape: &[u8], count: usize, k: usize) -> TapeAnswer
+    ensures { λ r. ⌜ tapeOutcome r (now (vram .exit)) (now (tape .entry))
+        ≡ stepBack (recorder s (now (vram .entry)) (now (tape .entry)) count) k ⌝ }
 {
     let number = back_number(s, vram, tape, count, k);
     if number != DONE {
-        return Recorded {
+        return TapeAnswer {
             number,
             result: 0,
             count,
             state: s,
         };
     }
-    Recorded {
+    TapeAnswer {
         number: DONE,
         result: 0,
         count: count - k,

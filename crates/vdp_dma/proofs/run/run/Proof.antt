@@ -1,8 +1,7 @@
 -- Refused, or the units made.
-use Prim.Native.Nat.{ℕ}
 use borrow.Author.Needs.{needs}
-use borrow.Author.Tests.{eq-eqb, ne-eqb}
-use mathlib.Core.Path.{_≡_, sym, ap, _∙_}
+use borrow.Author.Tests.{ne-eqb}
+use mathlib.Core.Path.{sym, ap, _∙_}
 use Rattle.vdp_state.specs.State.{Chip}
 use Rattle.vdp_dma.proofs.run.run.Statement.{statement}
 use Rattle.vdp_dma.proofs.run.run.Tie as tie

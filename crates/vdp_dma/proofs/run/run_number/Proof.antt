@@ -3,10 +3,10 @@ use Prim.Native.Nat.{ℕ}
 use borrow.Author.Needs.{needs}
 use borrow.Author.Tests.{not-true, not-false}
 use lib.Dec.{eqb}
-use mathlib.Core.Bool.{Bool, true, false, _&&_, _||_, not}
+use mathlib.Core.Bool.{true, false, _&&_, _||_, not}
 use mathlib.Core.Path.{_≡_, sym, ap, _∙_}
 use Rattle.vdp_dma.proofs.Accepted.{lacks}
-use Rattle.vdp_dma.specs.Run.{badMemory, notLent, unitsMade}
+use Rattle.vdp_dma.specs.Run.{badMemory, notLent}
 use Rattle.vdp_dma.specs.Transfer.{atHand}
 use Rattle.vdp_state.specs.Good.{good}
 use Rattle.vdp_dma.proofs.run.run_number.Statement.{statement}
@@ -22,7 +22,7 @@ last c =
     let m : badMemory (a .vram .now) (a .cartridge .now) (a .ram .now) .holds ≡ false = sym (c .before .before .before .bad-memory .ensures) ∙ c .before .before .if2 .left in (
       g,
       m,
-      c .lacking .ensures ∙ ap (λ (n : ℕ). eqb (d .kind) 2 && not (eqb n 0 || atHand (a .cartridge .now) (d .source) n)) (c .before .units-made .ensures)
+      c .lacking .ensures ∙ ap (λ (n : ℕ). eqb (d .kind) 2 && not (eqb n 0 || atHand (a .cartridge .now) (d .source) n)) (c .before .words-made .ensures)
           ∙ sym (lacks (a .s) (a .vram .now) (a .cartridge .now) (a .ram .now) (a .budget) g m),
     )
 

@@ -5,11 +5,11 @@ use lib.ListN.{length, drop, getD}
 use mathlib.Core.List.{List}
 use mathlib.Core.Path.{_≡_, refl, sym, ap, ap₂, _∙_}
 use native.Mathlib.Omega.{arith}
-use Rattle.vdp_dma.proofs.Units.{units-source, units-next, units-none}
+use Rattle.vdp_dma.proofs.Units.{units-control-next, units-none}
 use Rattle.vdp_dma.proofs.Words.{moved-turn, moved-end, word-moved}
 use Rattle.vdp_dma.specs.Source.{nextSource}
 use Rattle.vdp_dma.specs.Transfer.{moved, holding, coloursIn, scrollsIn}
-use Rattle.vdp_dma.specs.Unit.{unitDma, unitsDma, unitControl, unitsControl}
+use Rattle.vdp_dma.specs.Unit.{unitControl, unitsControl}
 use Rattle.vdp_ports.specs.Access.{access as accessBy, written}
 use Rattle.vdp_ports.specs.Data.{advanced}
 use Rattle.vdp_ports.specs.Length.{register}
@@ -17,7 +17,6 @@ use Rattle.vdp_ports.specs.declared.access.Access.{Access}
 use Rattle.vdp_state.specs.Cell.{storedIn}
 use Rattle.vdp_state.specs.State.{Chip, chip}
 use Rattle.vdp_state.specs.declared.state.Control.{Control}
-use Rattle.vdp_state.specs.declared.state.Dma.{Dma}
 use Rattle.vdp_state.specs.declared.state.Port.{Port}
 use Rattle.vdp_state.specs.declared.state.Store.{Store}
 use Rattle.vdp_dma.proofs.transfer.move_part.Statement.{statement}
@@ -77,13 +76,10 @@ loop-again c =
     let next : Control = unitControl now (register (a .t1) 15) (nextSource (now .dma .source)) in
     let w : ℕ = getD (a .part .now) (l .i) 0 * 256 + getD (a .part .now) (l .i + 1) 0 in
     let x : Store = written (accessBy (l .port .code)) (l .port .address) w in
-    let same : c .before .before .before .before .before .before .before .before .before .before .written .result ≡ x =
-    c .before .before .before .before .before .before .before .before .before .before .written .ensures
-    ∙ ap₂ (λ (q : Access) (v : ℕ). written q (l .port .address) v) (l .inv .4) (c .before .before .before .before .before .before .before .before .before .before .before .joined .ensures) in
+    let word = c .before .before .before .before .before .before .before .before .before .before in
+    let same : word .written .result ≡ x = word .written .ensures ∙ ap₂ (λ (q : Access) (v : ℕ). written q (l .port .address) v) (l .inv .4) (word .before .joined .ensures) in
     let control : unitsControl k (c .before .advanced .result) (l .made + 1) (c .next-source .result) ≡ next =
-    ap₂ (λ (p : Port) (y : Dma). record { port = p; dma = y; flags = k .flags }) (c .before .advanced .ensures ∙ ap (advanced (l .port)) (l .inv .3))
-    (ap (unitsDma d (l .made + 1)) (c .next-source .ensures) ∙ units-next d (l .made) live (l .source) (nextSource (l .source))
-    ∙ ap (λ (y : ℕ). unitDma (unitsDma d (l .made) (l .source)) (nextSource y)) (sym (units-source d (l .made) live (l .source)))) in
+    units-control-next k (l .port) _ (l .source) _ (l .made) (register (a .t1) 15) nextSource live (c .before .advanced .ensures ∙ ap (advanced (l .port)) (l .inv .3)) (c .next-source .ensures) in
     let made : Control → List ℕ → List ℕ → List ℕ → Chip = λ q cs vs m. chip (holding (a .t1) q cs vs) m in (
       omega (arith, t .loop-test .taken),
       omega (arith, l .inv .1),

@@ -1,10 +1,7 @@
 -- By the store; past the end `set` changes nothing.
-use Prim.Native.Nat.{_≤_}
 use borrow.Author.Needs.{needs}
-use lib.ListN.{length}
 use lib.Seq.{set-out}
-use mathlib.Core.Path.{_≡_, refl, sym, ap, _∙_}
-use native.Mathlib.Omega.{arith}
+use mathlib.Core.Path.{sym}
 use Rattle.vdp_dma.proofs.transfer.store_word.Statement.{statement}
 use Rattle.vdp_dma.proofs.transfer.store_word.Tie as tie
 

@@ -1,5 +1,5 @@
 -- The invariant: the words left, moved from here, lead where all of them lead from the start, and they are at hand.
-use Prim.Native.Nat.{ℕ, _≤_, _<_, _-_, _+_, _*_, _/_, _^_}
+use Prim.Native.Nat.{ℕ, _≤_, _<_, _-_, _/_, _^_}
 use borrow.Author.Needs.{needs}
 use lib.ListN.{length}
 use mathlib.Core.List.{List}
@@ -7,7 +7,7 @@ use mathlib.Core.Path.{_≡_, refl, sym, ap, subst, _∙_}
 use native.Mathlib.Omega.{arith}
 use Rattle.vdp_dma.proofs.Words.{PartMoved, part-moved}
 use Rattle.vdp_dma.specs.Run.{ran}
-use Rattle.vdp_dma.specs.Transfer.{moved, Ready}
+use Rattle.vdp_dma.specs.Transfer.{Ready}
 use Rattle.vdp_state.specs.State.{Chip, chip}
 use Rattle.vdp_dma.proofs.transfer.transfer_units.Statement.{statement}
 use Rattle.vdp_dma.proofs.transfer.transfer_units.Tie as tie

@@ -1,8 +1,8 @@
 -- The invariant: what has passed so far and the words from i on decide.
-use Prim.Native.Nat.{ℕ, _≤_, _<_, _-_}
+use Prim.Native.Nat.{_≤_, _<_, _-_}
 use borrow.Author.Needs.{needs}
-use lib.ListN.{length, getD, drop}
-use mathlib.Core.Bool.{Bool, _&&_}
+use lib.ListN.{length, drop}
+use mathlib.Core.Bool.{_&&_}
 use mathlib.Core.Path.{_≡_, refl, _∙_}
 use Rattle.vdp_state.proofs.All.{all-turn, all-end}
 use Rattle.vdp_state.specs.Good.{all, isScroll}

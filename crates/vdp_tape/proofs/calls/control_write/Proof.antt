@@ -1,19 +1,19 @@
 -- By what the parts ensure.
 use borrow.Author.Needs.{needs}
-use mathlib.Core.List.{[]}
-use mathlib.Core.Path.{_≡_, refl, _∙_}
-use Rattle.vdp_ports.specs.Control.{controlTests, controlStep}
-use Rattle.vdp_tape.proofs.Steps.{one-recorded}
-use Rattle.vdp_tape.specs.Recorder.{recorder}
+use mathlib.Core.Path.{refl}
+use Rattle.vdp_state.specs.State.{chip}
+use Rattle.vdp_tape.proofs.Steps.{control-off}
+use Rattle.vdp_tape.specs.Recorded.{ControlWrite, planOf}
 use Rattle.vdp_tape.proofs.calls.control_write.Statement.{statement}
 use Rattle.vdp_tape.proofs.calls.control_write.Tie as tie
 
 returns : tie.Need-returns
-returns c =
-    let a = c .before .before .before .before .before .before .before .args in
-    c .before .before .without-vram .ensures
-    ∙ one-recorded (controlTests (a .s)) 0 (λ x. controlStep (x .state) (a .w)) (recorder (a .s) [] (a .tape .now) (a .count)) _ 0 _
-    (c .before .before .before .before .before .control-number .ensures) refl (c .before .before .before .control-step .ensures)
+returns c = λ m.
+    let o = c .before .before in
+    let a = o .before .before .before .before .before .args in
+    o .without-vram .ensures m (planOf (ControlWrite (a .w)) (chip (a .s) m))
+    (record { number = o .before .before .before .control-number .ensures; result = refl; one = refl; step = o .before .control-step .ensures })
+    (control-off (a .s) (a .w))
 
 pub control-write-spec : {M : Type 1} → statement M
 control-write-spec =

@@ -1,13 +1,13 @@
 -- The invariant: the units left, recorded from here, lead where all of them lead from the start.
-use Prim.Native.Nat.{ℕ, _≤_, _-_, _+_}
+use Prim.Native.Nat.{_≤_, _-_, _+_}
 use borrow.Author.Needs.{needs}
 use lib.ListN.{length}
 use mathlib.Core.Path.{_≡_, refl, sym, ap, _∙_}
 use native.Mathlib.Omega.{arith}
 use Rattle.vdp_dma.specs.Unit.{unit}
-use Rattle.vdp_tape.proofs.Steps.{record-turn, record-end, record-start}
+use Rattle.vdp_state.proofs.Iterate.{iterate-turn, iterate-end, iterate-start}
 use Rattle.vdp_tape.specs.Number.{capacity}
-use Rattle.vdp_tape.specs.Recorder.{recorder, recordStep, recordSteps}
+use Rattle.vdp_tape.specs.Recorder.{recorder, recordStep, recordNext, recordSteps}
 use Rattle.vdp_tape.proofs.calls.record_units.Statement.{statement}
 use Rattle.vdp_tape.proofs.calls.record_units.Tie as tie
 
@@ -27,7 +27,7 @@ loop-holds : tie.Need-loop-holds Inv-loop μ-loop
 loop-holds c =
     let s = c .before .before .before .before in
     let a = s .args in
-    (omega arith, search needs, refl, refl, s .pre, record-start (unit (a .cartridge .now) (a .ram .now)) (a .n) (recorder (a .s) (a .vram .now) (a .tape .now) (a .count)))
+    (omega arith, search needs, refl, refl, s .pre, iterate-start (recordNext (unit (a .cartridge .now) (a .ram .now))) (a .steps) (recorder (a .s) (a .vram .now) (a .tape .now) (a .count)))
 
 record-step-requires : tie.Need-record-step-requires Inv-loop μ-loop
 record-step-requires c κs =
@@ -42,7 +42,7 @@ add-at c =
 add-i : tie.Need-add-i Inv-loop μ-loop
 add-i c =
     let l = c .before .before .before .before .before .before .before .before .before in
-    omega (arith, l .loop-test .taken, l .before .before .before .before .before .before .fits .n)
+    omega (arith, l .loop-test .taken, l .before .before .before .before .before .before .fits .steps)
 
 loop-again : tie.Need-loop-again Inv-loop μ-loop
 loop-again c =
@@ -56,8 +56,8 @@ loop-again c =
       p .kept .1 .0 ∙ l .inv .2,
       p .kept .1 .1 .0 ∙ l .inv .3,
       omega (arith, l .inv .4, p .kept .1 .1 .0),
-      ap (recordSteps step (a .n - (l .i + 1))) (p .ensures ∙ ap (recordStep (recorder (l .next) (l .vram) (l .tape) (l .at))) (c .before .before .before .before .before .before .before .unit-step .ensures))
-          ∙ sym (record-turn step (a .n) (l .i) (recorder (l .next) (l .vram) (l .tape) (l .at)) (t .loop-test .taken)) ∙ l .inv .5,
+      ap (recordSteps step (a .steps - (l .i + 1))) (p .ensures ∙ ap (recordStep (recorder (l .next) (l .vram) (l .tape) (l .at))) (c .before .before .before .before .before .before .before .unit-step .ensures))
+          ∙ sym (iterate-turn (recordNext step) (a .steps) (l .i) (recorder (l .next) (l .vram) (l .tape) (l .at)) (t .loop-test .taken)) ∙ l .inv .5,
     )
 
 same-length : tie.Need-same-length Inv-loop μ-loop
@@ -70,8 +70,8 @@ returns : tie.Need-returns Inv-loop μ-loop
 returns c =
     let l = c .before .loop in
     let a = c .before .before .before .before .before .before .args in
-    ap (recorder (l .next) (l .vram) (l .tape)) (let e : a .count + a .n ≡ l .at = omega (arith, l .inv .0, l .inv .1, c .loop-test .left) in e)
-    ∙ sym (record-end (unit (a .cartridge .now) (a .ram .now)) (a .n) (l .i) (recorder (l .next) (l .vram) (l .tape) (l .at)) (c .loop-test .left)) ∙ l .inv .5
+    ap (recorder (l .next) (l .vram) (l .tape)) (let e : a .count + a .steps ≡ l .at = omega (arith, l .inv .0, l .inv .1, c .loop-test .left) in e)
+    ∙ sym (iterate-end (recordNext (unit (a .cartridge .now) (a .ram .now))) (a .steps) (l .i) (recorder (l .next) (l .vram) (l .tape) (l .at)) (c .loop-test .left)) ∙ l .inv .5
 
 pub record-units-spec : {M : Type 1} → statement M
 record-units-spec =

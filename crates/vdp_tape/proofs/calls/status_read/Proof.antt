@@ -1,19 +1,18 @@
 -- By what the parts ensure.
 use borrow.Author.Needs.{needs}
-use mathlib.Core.List.{[]}
-use mathlib.Core.Path.{_≡_, _∙_}
-use Rattle.vdp_ports.specs.Status.{statusTests, statusStep, statusWord}
-use Rattle.vdp_tape.proofs.Steps.{one-recorded}
-use Rattle.vdp_tape.specs.Recorder.{recorder}
+use mathlib.Core.Path.{refl}
+use Rattle.vdp_state.specs.State.{chip}
+use Rattle.vdp_tape.specs.Recorded.{StatusRead, planOf}
 use Rattle.vdp_tape.proofs.calls.status_read.Statement.{statement}
 use Rattle.vdp_tape.proofs.calls.status_read.Tie as tie
 
 returns : tie.Need-returns
-returns c =
-    let a = c .before .before .before .before .before .before .before .before .args in
-    c .before .before .without-vram .ensures
-    ∙ one-recorded (statusTests (a .s)) (statusWord (a .s)) (λ x. statusStep (x .state)) (recorder (a .s) [] (a .tape .now) (a .count)) _ _ _
-    (c .before .before .before .before .before .before .status-number .ensures) (c .before .before .before .status-word .ensures) (c .before .before .before .before .status-step .ensures)
+returns c = λ m.
+    let o = c .before .before in
+    let a = o .before .before .before .before .before .before .args in
+    o .without-vram .ensures m (planOf StatusRead (chip (a .s) m))
+    (record { number = o .before .before .before .before .status-number .ensures; result = o .before .status-word .ensures; one = refl; step = o .before .before .status-step .ensures })
+    tt
 
 pub status-read-spec : {M : Type 1} → statement M
 status-read-spec =

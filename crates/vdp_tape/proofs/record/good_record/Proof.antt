@@ -1,11 +1,12 @@
 -- By what the parts ensure of the bytes and of the step that they read as.
 use borrow.Author.Needs.{needs}
 use mathlib.Core.Bool.{_&&_}
-use mathlib.Core.Path.{_≡_, ap, _∙_}
+use mathlib.Core.Path.{ap}
 use Rattle.vdp_state.specs.Good.{goodControl}
 use Rattle.vdp_state.specs.Range.{goodStore}
+use Rattle.vdp_state.specs.Same.{same}
 use Rattle.vdp_state.specs.declared.state.Step.{Step}
-use Rattle.vdp_tape.specs.Record.{recordOf, same}
+use Rattle.vdp_tape.specs.Record.{recordOf}
 use Rattle.vdp_tape.proofs.record.good_record.Statement.{statement}
 use Rattle.vdp_tape.proofs.record.good_record.Tie as tie
 

@@ -1,11 +1,10 @@
 -- The invariant: what is left to compare decides.
-use Prim.Native.Nat.{_≤_, _<_, _-_}
+use Prim.Native.Nat.{_-_}
 use borrow.Author.Needs.{needs}
 use lib.ListN.{length, drop}
 use mathlib.Core.Path.{_≡_, refl, sym, _∙_}
-use native.Mathlib.Omega.{arith}
-use Rattle.vdp_tape.proofs.Same.{same-lengths, same-passed, same-failed, same-ended}
-use Rattle.vdp_tape.specs.Record.{same}
+use Rattle.vdp_state.proofs.Same.{same-lengths, same-passed, same-failed, same-ended}
+use Rattle.vdp_state.specs.Same.{same}
 use Rattle.vdp_tape.proofs.record.same.Statement.{statement}
 use Rattle.vdp_tape.proofs.record.same.Tie as tie
 

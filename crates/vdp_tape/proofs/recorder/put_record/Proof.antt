@@ -1,11 +1,10 @@
 -- The invariant: the bytes left, stored from here, lead where all of them lead from the start.
-use Prim.Native.Nat.{_≤_, _<_, _-_, _+_}
+use Prim.Native.Nat.{_≤_, _-_, _+_}
 use borrow.Author.Needs.{needs}
 use lib.ListN.{length, drop, length-set}
 use lib.Seq.{sets}
 use mathlib.Core.Path.{_≡_, refl, sym, _∙_}
-use native.Mathlib.Omega.{arith}
-use Rattle.vdp_tape.proofs.Same.{sets-start, sets-turn, sets-end}
+use Rattle.vdp_tape.proofs.Tape.{sets-start, sets-turn, sets-end}
 use Rattle.vdp_tape.proofs.recorder.put_record.Statement.{statement}
 use Rattle.vdp_tape.proofs.recorder.put_record.Tie as tie
 

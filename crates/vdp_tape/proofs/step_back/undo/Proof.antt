@@ -1,8 +1,8 @@
 -- The invariant: the records left, undone from here, lead where all of them lead from the start.
-use Prim.Native.Nat.{ℕ, _≤_, _-_, _+_}
+use Prim.Native.Nat.{ℕ, _≤_, _-_}
 use borrow.Author.Needs.{needs}
 use lib.ListN.{length}
-use mathlib.Core.Path.{_≡_, refl, sym, ap, _∙_}
+use mathlib.Core.Path.{_≡_, refl, ap, _∙_}
 use native.Mathlib.Omega.{arith}
 use Rattle.vdp_state.specs.Cell.{perform}
 use Rattle.vdp_state.specs.State.{chip}

@@ -2,7 +2,7 @@
 
 // The number, and the word read or the units made, else 0.
 #[repr(C)]
-pub struct Given {
+pub struct LentAnswer {
     pub number: u8,
     pub result: u32,
 }

@@ -1,21 +1,16 @@
--- Loops over two lists at once: comparing them, and storing one in the other.
-use Prim.Native.Nat.{ℕ, zero, suc, _+_, _<_, _≤_}
-use mathlib.Core.Path.{_≡_, refl, sym, ap, ap₂, subst, _∙_}
-use mathlib.Core.Bool.{Bool, true, false, _&&_}
+-- Lists that are the same, and a loop that compares two lists.
+use Prim.Native.Nat.{ℕ, suc, _+_, _<_, _≤_}
+use mathlib.Core.Path.{_≡_, refl, ap, ap₂, _∙_}
+use mathlib.Core.Bool.{Bool, true, false, _&&_, false≢true}
 use mathlib.Core.List.{List, [], _∷_}
-use native.Mathlib.Nat.{add-zero}
 use native.Mathlib.Numerals.{add-one}
 use native.Mathlib.Omega.{arith}
 use borrow.Author.Tests.{eq-eqb, ne-eqb, eqb-true}
 use lib.Dec.{eqb}
-use lib.ListN.{length, getD, drop, set, drop-of-length-le}
-use lib.Seq.{drop-cons, sets}
-use Rattle.vdp_state.proofs.Laws.{both-left, both-right}
-use Rattle.vdp_tape.specs.Record.{same}
-
-and-false : (a : Bool) → (a && false) ≡ false
-and-false true = refl
-and-false false = refl
+use lib.ListN.{length, getD, drop, drop-of-length-le}
+use lib.Seq.{drop-cons}
+use Rattle.vdp_state.specs.Same.{same}
+use Rattle.vdp_state.proofs.Bools.{and-false, both-left, both-right}
 
 pub same-lengths : (a b : List ℕ) → (length a ≡ length b → ⊥) → same a b ≡ false
 same-lengths [] [] h = absurd (h refl)
@@ -26,8 +21,8 @@ same-lengths (x ∷ a) (y ∷ b) h = ap (λ (t : Bool). eqb x y && t) (same-leng
 -- lists that are the same are equal, and a list is the same as itself
 pub same-equal : (a b : List ℕ) → same a b ≡ true → a ≡ b
 same-equal [] [] e = refl
-same-equal [] (y ∷ b) e = absurd (mathlib.Core.Bool.false≢true e)
-same-equal (x ∷ a) [] e = absurd (mathlib.Core.Bool.false≢true e)
+same-equal [] (y ∷ b) e = absurd (false≢true e)
+same-equal (x ∷ a) [] e = absurd (false≢true e)
 same-equal (x ∷ a) (y ∷ b) e = ap₂ (λ (u : ℕ) (v : List ℕ). u ∷ v) (eqb-true x y (both-left (eqb x y) (same a b) e)) (same-equal a b (both-right (eqb x y) (same a b) e))
 
 pub same-self : (a : List ℕ) → same a a ≡ true
@@ -46,15 +41,3 @@ module _ (a b : List ℕ) (i : ℕ) where
 
   pub same-ended : length a ≤ i → length a ≡ length b → same (drop i a) (drop i b) ≡ true
   same-ended h e = ap₂ same (drop-of-length-le a h) (drop-of-length-le b (let q : length b ≤ i = omega arith in q))
-
-module _ (l : List ℕ) (at : ℕ) (bytes : List ℕ) where
-  pub sets-start : sets l (at + 0) (drop 0 bytes) ≡ sets l at bytes
-  sets-start = ap (λ (j : ℕ). sets l j bytes) (add-zero at)
-
-  pub sets-turn : (i : ℕ) → i < length bytes → sets (set l (at + i) (getD bytes i 0)) (at + (i + 1)) (drop (i + 1) bytes) ≡ sets l (at + i) (drop i bytes)
-  sets-turn i h =
-      let next : at + (i + 1) ≡ suc (at + i) = omega arith in
-      sym (ap (sets l (at + i)) (drop-cons bytes i 0 h) ∙ ap₂ (λ (j k : ℕ). sets (set l (at + i) (getD bytes i 0)) j (drop k bytes)) (sym next) (sym (add-one i)))
-
-  pub sets-end : (i : ℕ) → length bytes ≤ i → sets l (at + i) (drop i bytes) ≡ l
-  sets-end i h = ap (sets l (at + i)) (drop-of-length-le bytes h)

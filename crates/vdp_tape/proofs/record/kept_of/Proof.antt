@@ -1,7 +1,7 @@
 -- By the store.
 use borrow.Author.Needs.{needs}
-use Rattle.vdp_tape.proofs.record.cell_of.Statement.{statement}
-use Rattle.vdp_tape.proofs.record.cell_of.Tie as tie
+use Rattle.vdp_tape.proofs.record.kept_of.Statement.{statement}
+use Rattle.vdp_tape.proofs.record.kept_of.Tie as tie
 
 returns : tie.Need-returns
 returns c = simp (c .enum-told .given .1)
@@ -18,8 +18,8 @@ returns-4 c = simp (c .before .store3 .given .1)
 returns-5 : tie.Need-returns-5
 returns-5 c = simp (c .before .store4 .given .1)
 
-pub cell-of-spec : {M : Type 1} → statement M
-cell-of-spec =
+pub kept-of-spec : {M : Type 1} → statement M
+kept-of-spec =
     tie.close
     (tie.spec
     (λ c. search needs)
