@@ -12,9 +12,6 @@ returns c =
     let small : a .b < 256 = search needs in
     simp (c .if1 .taken, byte-stored (a .vram .now) (inverted (a .address)) (a .b) (λ i. c .before .before .slice-known .given i .fits) small, c .before .inverted .ensures)
 
-returns-2 : tie.Need-returns-2
-returns-2 c = simp (c .if1 .left)
-
 pub fill-byte-spec : {M : Type 1} → statement M
 fill-byte-spec =
     tie.close
@@ -24,4 +21,4 @@ fill-byte-spec =
     (λ c. search needs)
     (λ c. search needs)
     returns
-    returns-2)
+    (λ c. simp (c .if1 .left)))

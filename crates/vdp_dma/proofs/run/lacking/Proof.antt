@@ -3,9 +3,6 @@ use borrow.Author.Needs.{needs}
 use Rattle.vdp_dma.proofs.run.lacking.Statement.{statement}
 use Rattle.vdp_dma.proofs.run.lacking.Tie as tie
 
-returns : tie.Need-returns
-returns c = cc
-
 pub lacking-spec : {M : Type 1} → statement M
 lacking-spec =
     tie.close
@@ -14,4 +11,4 @@ lacking-spec =
     (λ c κs. search needs)
     (λ c. search needs)
     (λ c. search needs)
-    returns)
+    (λ c. cc))

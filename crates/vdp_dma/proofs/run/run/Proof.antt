@@ -11,9 +11,6 @@ returns c =
     let n = c .before .run-number in
     simp (sym (n .ensures)) (simp (ne-eqb _ _ (c .if1 .taken)))
 
-accepted-requires : tie.Need-accepted-requires
-accepted-requires c κs = sym (c .before .before .run-number .ensures) ∙ c .before .if1 .left
-
 returns-2 : tie.Need-returns-2
 returns-2 c =
     let n = c .before .before .before .before .before .before .run-number in
@@ -27,7 +24,7 @@ run-spec =
     (λ c κs. search needs)
     (λ c. search needs)
     returns
-    accepted-requires
+    (λ c κs. sym (c .before .before .run-number .ensures) ∙ c .before .if1 .left)
     (λ c κs. search needs)
     (λ c. search needs)
     returns-2)

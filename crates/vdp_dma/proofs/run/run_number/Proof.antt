@@ -26,9 +26,6 @@ last c =
           ∙ sym (lacks (a .s) (a .vram .now) (a .cartridge .now) (a .ram .now) (a .budget) g m),
     )
 
-returns : tie.Need-returns
-returns c = simp (sym (c .before .good2 .ensures) ∙ not-true _ (c .if1 .taken))
-
 returns-2 : tie.Need-returns-2
 returns-2 c = simp (sym (c .before .before .before .good2 .ensures) ∙ not-false _ (c .before .before .if1 .left), sym (c .before .bad-memory .ensures) ∙ c .if2 .taken)
 
@@ -47,7 +44,7 @@ run-number-spec =
     tie.close
     (tie.spec
     (λ c κs. search needs)
-    returns
+    (λ c. simp (sym (c .before .good2 .ensures) ∙ not-true _ (c .if1 .taken)))
     (λ c κs. search needs)
     returns-2
     (λ c κs. search needs)

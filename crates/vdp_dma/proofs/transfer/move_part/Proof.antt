@@ -97,9 +97,6 @@ loop-again c =
       st .kept .1 .1 .1 .0 ∙ l .inv .8,
     )
 
-same-length : tie.Need-same-length Inv-loop μ-loop
-same-length c = c .before .before .loop .inv .2
-
 returns : tie.Need-returns Inv-loop μ-loop
 returns c =
     let l = c .before .before .loop in
@@ -132,5 +129,5 @@ move-part-spec =
     (λ c. search needs)
     loop-again
     (λ c κs. search needs)
-    same-length
+    (λ c. c .before .before .loop .inv .2)
     returns)

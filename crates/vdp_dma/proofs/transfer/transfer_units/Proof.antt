@@ -43,9 +43,6 @@ cast-count c =
     let l = c .before .before .loop .inv .3 in
     omega arith
 
-same-length : tie.Need-same-length Inv-loop μ-loop
-same-length c = c .before .before .before .loop .inv .0
-
 returns : tie.Need-returns Inv-loop μ-loop
 returns c =
     let p = part (c .before) in
@@ -84,9 +81,6 @@ loop-again c =
       ap (ran (a .cartridge .now) (a .ram .now) left) (m .ensures) ∙ sym (p .made) ∙ l .inv .5,
     )
 
-same-length-2 : tie.Need-same-length-2 Inv-loop μ-loop
-same-length-2 c = c .before .loop .inv .0
-
 returns-2 : tie.Need-returns-2 Inv-loop μ-loop
 returns-2 c =
     let l = c .before .loop in
@@ -102,11 +96,11 @@ transfer-units-spec =
     loop-holds
     (λ c κs. search needs)
     cast-count
-    same-length
+    (λ c. c .before .before .before .loop .inv .0)
     returns
     move-part-requires
     sub-left
     loop-less
     loop-again
-    same-length-2
+    (λ c. c .before .loop .inv .0)
     returns-2)

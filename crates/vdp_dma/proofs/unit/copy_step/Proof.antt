@@ -3,9 +3,6 @@ use borrow.Author.Needs.{needs}
 use Rattle.vdp_dma.proofs.unit.copy_step.Statement.{statement}
 use Rattle.vdp_dma.proofs.unit.copy_step.Tie as tie
 
-returns : tie.Need-returns
-returns c = cc
-
 pub copy-step-spec : {M : Type 1} → statement M
 copy-step-spec =
     tie.close
@@ -16,4 +13,4 @@ copy-step-spec =
     (λ c κs. search needs)
     (λ c κs. search needs)
     (λ c κs. search needs)
-    returns)
+    (λ c. cc))

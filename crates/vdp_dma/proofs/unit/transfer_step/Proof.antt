@@ -3,9 +3,6 @@ use borrow.Author.Needs.{needs}
 use Rattle.vdp_dma.proofs.unit.transfer_step.Statement.{statement}
 use Rattle.vdp_dma.proofs.unit.transfer_step.Tie as tie
 
-returns : tie.Need-returns
-returns c = cc
-
 pub transfer-step-spec : {M : Type 1} → statement M
 transfer-step-spec =
     tie.close
@@ -15,4 +12,4 @@ transfer-step-spec =
     (λ c κs. search needs)
     (λ c κs. search needs)
     (λ c κs. search needs)
-    returns)
+    (λ c. cc))

@@ -3,9 +3,6 @@ use borrow.Author.Needs.{needs}
 use Rattle.vdp_host.proofs.colour.kuthbareen_colour_parts.Statement.{statement}
 use Rattle.vdp_host.proofs.colour.kuthbareen_colour_parts.Tie as tie
 
-returns : tie.Need-returns
-returns c = simp (c .before .before .before .colour-parts .ensures)
-
 pub kuthbareen-colour-parts-spec : {M : Type 1} → statement M
 kuthbareen-colour-parts-spec =
     tie.close
@@ -18,4 +15,4 @@ kuthbareen-colour-parts-spec =
     (λ c. search needs)
     (λ c. search needs)
     (λ c. search needs)
-    returns)
+    (λ c. simp (c .before .before .before .colour-parts .ensures)))

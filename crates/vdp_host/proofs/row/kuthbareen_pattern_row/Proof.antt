@@ -4,12 +4,6 @@ use borrow.Author.Tests.{eq-eqb, ne-eqb, lt-ltb, le-ltb}
 use Rattle.vdp_host.proofs.row.kuthbareen_pattern_row.Statement.{statement}
 use Rattle.vdp_host.proofs.row.kuthbareen_pattern_row.Tie as tie
 
-returns : tie.Need-returns
-returns c = simp (ne-eqb _ _ (c .if1 .taken))
-
-returns-2 : tie.Need-returns-2
-returns-2 c = simp (eq-eqb _ _ (c .before .if1 .left), ne-eqb _ _ (c .if2 .taken))
-
 returns-3 : tie.Need-returns-3
 returns-3 c = simp (eq-eqb _ _ (c .before .before .if1 .left), eq-eqb _ _ (c .before .if2 .left), lt-ltb _ _ (c .if3 .taken))
 
@@ -23,8 +17,8 @@ pub kuthbareen-pattern-row-spec : {M : Type 1} → statement M
 kuthbareen-pattern-row-spec =
     tie.close
     (tie.spec
-    returns
-    returns-2
+    (λ c. simp (ne-eqb _ _ (c .if1 .taken)))
+    (λ c. simp (eq-eqb _ _ (c .before .if1 .left), ne-eqb _ _ (c .if2 .taken)))
     returns-3
     returns-4
     (λ c κs. search needs)

@@ -3,15 +3,6 @@ use borrow.Author.Needs.{needs}
 use Rattle.vdp_ports.proofs.access.memory_word.Statement.{statement}
 use Rattle.vdp_ports.proofs.access.memory_word.Tie as tie
 
-returns : tie.Need-returns
-returns c = simp (c .before .enum-told .given .1, c .word-at .ensures)
-
-returns-2 : tie.Need-returns-2
-returns-2 c = simp (c .before .before .before .before .enum-told2 .given .1, c .number-at .ensures)
-
-returns-3 : tie.Need-returns-3
-returns-3 c = simp (c .before .before .before .before .enum-told3 .given .1, c .number-at2 .ensures)
-
 pub memory-word-spec : {M : Type 1} → statement M
 memory-word-spec =
     tie.close
@@ -25,6 +16,6 @@ memory-word-spec =
     (λ c κs. search needs)
     (λ c. search needs)
     (λ c κs. search needs)
-    returns
-    returns-2
-    returns-3)
+    (λ c. simp (c .before .enum-told .given .1, c .word-at .ensures))
+    (λ c. simp (c .before .before .before .before .enum-told2 .given .1, c .number-at .ensures))
+    (λ c. simp (c .before .before .before .before .enum-told3 .given .1, c .number-at2 .ensures)))

@@ -3,15 +3,6 @@ use borrow.Author.Needs.{needs}
 use Rattle.vdp_ports.proofs.access.written.Statement.{statement}
 use Rattle.vdp_ports.proofs.access.written.Tie as tie
 
-returns : tie.Need-returns
-returns c = simp (c .before .before .access .given .1, c .memory-store .ensures)
-
-returns-2 : tie.Need-returns-2
-returns-2 c = simp (c .enum-told .given .1)
-
-returns-3 : tie.Need-returns-3
-returns-3 c = simp (c .enum-told2 .given .1)
-
 pub written-spec : {M : Type 1} → statement M
 written-spec =
     tie.close
@@ -20,6 +11,6 @@ written-spec =
     (λ c κs. search needs)
     (λ c. search needs)
     (λ c. search needs)
-    returns
-    returns-2
-    returns-3)
+    (λ c. simp (c .before .before .access .given .1, c .memory-store .ensures))
+    (λ c. simp (c .enum-told .given .1))
+    (λ c. simp (c .enum-told2 .given .1)))

@@ -3,9 +3,6 @@ use borrow.Author.Needs.{needs}
 use Rattle.vdp_ports.proofs.control.first_half.Statement.{statement}
 use Rattle.vdp_ports.proofs.control.first_half.Tie as tie
 
-returns : tie.Need-returns
-returns c = simp (c .fill-dropped .ensures)
-
 pub first-half-spec : {M : Type 1} → statement M
 first-half-spec =
     tie.close
@@ -16,4 +13,4 @@ first-half-spec =
     (λ c. search needs)
     (λ c. search needs)
     (λ c κs. search needs)
-    returns)
+    (λ c. simp (c .fill-dropped .ensures)))

@@ -4,12 +4,6 @@ use borrow.Author.Tests.{lt-ltb, le-ltb}
 use Rattle.vdp_ports.proofs.control.register_write.Statement.{statement}
 use Rattle.vdp_ports.proofs.control.register_write.Tie as tie
 
-returns : tie.Need-returns
-returns c = simp (lt-ltb _ _ (c .before .before .if1 .taken), c .fill-dropped .ensures)
-
-returns-2 : tie.Need-returns-2
-returns-2 c = simp (le-ltb _ _ (c .if1 .left))
-
 pub register-write-spec : {M : Type 1} → statement M
 register-write-spec =
     tie.close
@@ -17,5 +11,5 @@ register-write-spec =
     (λ c. search needs)
     (λ c κs. search needs)
     (λ c. search needs)
-    returns
-    returns-2)
+    (λ c. simp (lt-ltb _ _ (c .before .before .if1 .taken), c .fill-dropped .ensures))
+    (λ c. simp (le-ltb _ _ (c .if1 .left))))

@@ -3,9 +3,6 @@ use borrow.Author.Needs.{needs}
 use Rattle.vdp_ports.proofs.control.second_half.Statement.{statement}
 use Rattle.vdp_ports.proofs.control.second_half.Tie as tie
 
-returns : tie.Need-returns
-returns c = simp (c .before .dma-after .ensures)
-
 pub second-half-spec : {M : Type 1} → statement M
 second-half-spec =
     tie.close
@@ -16,4 +13,4 @@ second-half-spec =
     (λ c. search needs)
     (λ c. search needs)
     (λ c κs. search needs)
-    returns)
+    (λ c. simp (c .before .dma-after .ensures)))

@@ -5,9 +5,6 @@ use mathlib.Core.Path.{sym, _∙_}
 use Rattle.vdp_ports.proofs.data.data_number.Statement.{statement}
 use Rattle.vdp_ports.proofs.data.data_number.Tie as tie
 
-returns : tie.Need-returns
-returns c = simp (sym (c .before .good2 .ensures) ∙ not-true _ (c .if1 .taken))
-
 returns-2 : tie.Need-returns-2
 returns-2 c = simp (sym (c .before .before .good2 .ensures) ∙ not-false _ (c .before .if1 .left), ne-eqb _ _ (c .if2 .taken))
 
@@ -22,7 +19,7 @@ data-number-spec =
     tie.close
     (tie.spec
     (λ c κs. search needs)
-    returns
+    (λ c. simp (sym (c .before .good2 .ensures) ∙ not-true _ (c .if1 .taken)))
     returns-2
     (λ c κs. search needs)
     returns-3

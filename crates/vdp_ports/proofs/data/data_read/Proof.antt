@@ -3,9 +3,6 @@ use borrow.Author.Needs.{needs}
 use Rattle.vdp_ports.proofs.data.data_read.Statement.{statement}
 use Rattle.vdp_ports.proofs.data.data_read.Tie as tie
 
-returns : tie.Need-returns
-returns c = cc
-
 pub data-read-spec : {M : Type 1} → statement M
 data-read-spec =
     tie.close
@@ -15,4 +12,4 @@ data-read-spec =
     (λ c κs. search needs)
     (λ c. search needs)
     (λ c κs. search needs)
-    returns)
+    (λ c. cc))

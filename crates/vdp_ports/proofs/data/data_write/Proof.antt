@@ -3,9 +3,6 @@ use borrow.Author.Needs.{needs}
 use Rattle.vdp_ports.proofs.data.data_write.Statement.{statement}
 use Rattle.vdp_ports.proofs.data.data_write.Tie as tie
 
-returns : tie.Need-returns
-returns c = cc
-
 pub data-write-spec : {M : Type 1} → statement M
 data-write-spec =
     tie.close
@@ -14,4 +11,4 @@ data-write-spec =
     (λ c κs. search needs)
     (λ c κs. search needs)
     (λ c. search needs)
-    returns)
+    (λ c. cc))

@@ -7,9 +7,6 @@ use Rattle.vdp_ports.proofs.data.fill_begun.Tie as tie
 returns : tie.Need-returns
 returns c = simp (eq-eqb _ _ (c .before .before .if1 .taken), c .fill .ensures, c .before .byte-length .ensures)
 
-returns-2 : tie.Need-returns-2
-returns-2 c = simp (ne-eqb _ _ (c .before .if1 .left))
-
 pub fill-begun-spec : {M : Type 1} → statement M
 fill-begun-spec =
     tie.close
@@ -18,4 +15,4 @@ fill-begun-spec =
     (λ c. search needs)
     (λ c κs. search needs)
     returns
-    returns-2)
+    (λ c. simp (ne-eqb _ _ (c .before .if1 .left))))

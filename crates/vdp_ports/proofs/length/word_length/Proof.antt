@@ -3,9 +3,6 @@ use borrow.Author.Needs.{needs}
 use Rattle.vdp_ports.proofs.length.word_length.Statement.{statement}
 use Rattle.vdp_ports.proofs.length.word_length.Tie as tie
 
-returns : tie.Need-returns
-returns c = cc
-
 pub word-length-spec : {M : Type 1} → statement M
 word-length-spec =
     tie.close
@@ -14,4 +11,4 @@ word-length-spec =
     (λ c. search needs)
     (λ c κs. search needs)
     (λ c κs. search needs)
-    returns)
+    (λ c. cc))

@@ -3,9 +3,6 @@ use borrow.Author.Needs.{needs}
 use Rattle.vdp_ports.proofs.parts.colour_parts.Statement.{statement}
 use Rattle.vdp_ports.proofs.parts.colour_parts.Tie as tie
 
-returns : tie.Need-returns
-returns c = cc
-
 pub colour-parts-spec : {M : Type 1} → statement M
 colour-parts-spec =
     tie.close
@@ -16,4 +13,4 @@ colour-parts-spec =
     (λ c κs. search needs)
     (λ c. search needs)
     (λ c κs. search needs)
-    returns)
+    (λ c. cc))

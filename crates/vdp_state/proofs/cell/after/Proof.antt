@@ -3,12 +3,6 @@ use borrow.Author.Needs.{needs}
 use Rattle.vdp_state.proofs.cell.after.Statement.{statement}
 use Rattle.vdp_state.proofs.cell.after.Tie as tie
 
-returns : tie.Need-returns
-returns c = simp (c .enum-told .given .1)
-
-returns-2 : tie.Need-returns-2
-returns-2 c = simp (c .enum-told2 .given .1)
-
 returns-3 : tie.Need-returns-3
 returns-3 c = simp (c .before .before .before .before .before .store .given .1, c .before .put-number .ensures)
 
@@ -36,8 +30,8 @@ after-spec =
     (λ c. search needs)
     (λ c. search needs)
     (λ c κs. search needs)
-    returns
-    returns-2
+    (λ c. simp (c .enum-told .given .1))
+    (λ c. simp (c .enum-told2 .given .1))
     returns-3
     returns-4
     returns-5)

@@ -6,18 +6,6 @@ use Rattle.vdp_state.proofs.cell.store_in.Tie as tie
 returns : tie.Need-returns
 returns c = simp (c .before .before .before .before .before .store .given .1, c .before .before .put-word .ensures)
 
-returns-2 : tie.Need-returns-2
-returns-2 c = simp (c .enum-told .given .1)
-
-returns-3 : tie.Need-returns-3
-returns-3 c = simp (c .enum-told2 .given .1)
-
-returns-4 : tie.Need-returns-4
-returns-4 c = simp (c .enum-told3 .given .1)
-
-returns-5 : tie.Need-returns-5
-returns-5 c = simp (c .enum-told4 .given .1)
-
 pub store-in-spec : {M : Type 1} → statement M
 store-in-spec =
     tie.close
@@ -30,7 +18,7 @@ store-in-spec =
     (λ c. search needs)
     (λ c. search needs)
     returns
-    returns-2
-    returns-3
-    returns-4
-    returns-5)
+    (λ c. simp (c .enum-told .given .1))
+    (λ c. simp (c .enum-told2 .given .1))
+    (λ c. simp (c .enum-told3 .given .1))
+    (λ c. simp (c .enum-told4 .given .1)))

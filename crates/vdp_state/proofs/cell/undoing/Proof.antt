@@ -2,15 +2,10 @@ use Rattle.vdp_state.specs.Cell.{undoing}
 use borrow.Author.Needs.{needs}
 use Rattle.vdp_state.proofs.cell.undoing.Statement.{statement}
 use Rattle.vdp_state.proofs.cell.undoing.Tie as tie
-use Rattle.vdp_state.proofs.cell.undoing.Reads as reads
-use Rattle.vdp_state.proofs.cell.undoing.Lts as lts
-use Rattle.vdp_state.proofs.cell.present.Reads as present-reads
 
--- src/cell.rt:115:16
 present-requires : tie.Need-present-requires
 present-requires c κs = search needs
 
--- src/cell.rt:108:1
 returns : tie.Need-returns
 unfolding undoing
 returns c = cc

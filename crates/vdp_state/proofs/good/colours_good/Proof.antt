@@ -16,9 +16,6 @@ Inv-loop words ok₀ i₀ ok i = (i ≤ 64) × ((ok && all isColour (drop i word
 abbrev μ-loop : tie.MeasureT-loop
 μ-loop words ok₀ i₀ ok i = 64 - i
 
-loop-holds : tie.Need-loop-holds Inv-loop μ-loop
-loop-holds c = (search needs, refl)
-
 loop-again : tie.Need-loop-again Inv-loop μ-loop
 loop-again c =
     let l = c .before .before .loop in
@@ -39,7 +36,7 @@ colours-good-spec =
     (tie.spec
     Inv-loop
     μ-loop
-    loop-holds
+    (λ c. (search needs, refl))
     (λ c. search needs)
     (λ c. search needs)
     (λ c κs. search needs)

@@ -15,9 +15,6 @@ Inv-loop words ok₀ i₀ ok i = (i ≤ 40) × ((ok && all isScroll (drop i word
 abbrev μ-loop : tie.MeasureT-loop
 μ-loop words ok₀ i₀ ok i = 40 - i
 
-loop-holds : tie.Need-loop-holds Inv-loop μ-loop
-loop-holds c = (search needs, refl)
-
 loop-again : tie.Need-loop-again Inv-loop μ-loop
 loop-again c =
     let l = c .before .loop in
@@ -38,7 +35,7 @@ scrolls-good-spec =
     (tie.spec
     Inv-loop
     μ-loop
-    loop-holds
+    (λ c. (search needs, refl))
     (λ c. search needs)
     (λ c. search needs)
     (λ c. search needs)

@@ -60,12 +60,6 @@ loop-again c =
           ∙ sym (iterate-turn (recordNext step) (a .steps) (l .i) (recorder (l .next) (l .vram) (l .tape) (l .at)) (t .loop-test .taken)) ∙ l .inv .5,
     )
 
-same-length : tie.Need-same-length Inv-loop μ-loop
-same-length c = c .before .loop .inv .2
-
-same-length-2 : tie.Need-same-length-2 Inv-loop μ-loop
-same-length-2 c = c .before .loop .inv .3
-
 returns : tie.Need-returns Inv-loop μ-loop
 returns c =
     let l = c .before .loop in
@@ -86,6 +80,6 @@ record-units-spec =
     add-i
     (λ c. search needs)
     loop-again
-    same-length
-    same-length-2
+    (λ c. c .before .loop .inv .2)
+    (λ c. c .before .loop .inv .3)
     returns)

@@ -31,9 +31,6 @@ returns c =
 add-t17 : tie.Need-add-t17
 add-t17 c = omega (arith, c .before .with-tape .ensures .fits (c .if1 .left), c .before .before .before .before .before .before .before .before .before .before .good)
 
-record-units-requires : tie.Need-record-units-requires
-record-units-requires c κs = c .before .before .before .with-tape .ensures .fits (c .before .before .if1 .left)
-
 returns-2 : tie.Need-returns-2
 returns-2 c =
     let o = c .before .before .before .before in
@@ -58,7 +55,7 @@ run-spec =
     returns
     (λ c. search needs)
     add-t17
-    record-units-requires
+    (λ c κs. c .before .before .before .with-tape .ensures .fits (c .before .before .if1 .left))
     (λ c. search needs)
     (λ c. search needs)
     returns-2)

@@ -3,9 +3,6 @@ use borrow.Author.Needs.{needs}
 use Rattle.vdp_tape.proofs.record.control_of.Statement.{statement}
 use Rattle.vdp_tape.proofs.record.control_of.Tie as tie
 
-returns : tie.Need-returns
-returns c = cc
-
 pub control-of-spec : {M : Type 1} → statement M
 control-of-spec =
     tie.close
@@ -18,4 +15,4 @@ control-of-spec =
     (λ c κs. search needs)
     (λ c κs. search needs)
     (λ c κs. search needs)
-    returns)
+    (λ c. cc))

@@ -14,12 +14,6 @@ Inv-loop a b i₀ i = (length a ≡ length b) × (same a b ≡ same (drop i a) (
 abbrev μ-loop : tie.MeasureT-loop
 μ-loop a b i₀ i = length a - i
 
-returns : tie.Need-returns Inv-loop μ-loop
-returns c = sym (same-lengths (c .before .args .a .now) (c .before .args .b .now) (c .if1 .taken))
-
-loop-holds : tie.Need-loop-holds Inv-loop μ-loop
-loop-holds c = (c .if1 .left, refl)
-
 returns-2 : tie.Need-returns-2 Inv-loop μ-loop
 returns-2 c =
     let l = c .before .before .before .before .loop in
@@ -41,8 +35,8 @@ same-spec =
     (tie.spec
     Inv-loop
     μ-loop
-    returns
-    loop-holds
+    (λ c. sym (same-lengths (c .before .args .a .now) (c .before .args .b .now) (c .if1 .taken)))
+    (λ c. (c .if1 .left, refl))
     (λ c. search needs)
     (λ c. search needs)
     returns-2

@@ -3,9 +3,6 @@ use borrow.Author.Needs.{needs}
 use Rattle.vdp_tape.proofs.record.step_of.Statement.{statement}
 use Rattle.vdp_tape.proofs.record.step_of.Tie as tie
 
-returns : tie.Need-returns
-returns c = cc
-
 pub step-of-spec : {M : Type 1} → statement M
 step-of-spec =
     tie.close
@@ -15,4 +12,4 @@ step-of-spec =
     (λ c κs. search needs)
     (λ c κs. search needs)
     (λ c κs. search needs)
-    returns)
+    (λ c. cc))

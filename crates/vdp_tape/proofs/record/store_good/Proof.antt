@@ -3,21 +3,6 @@ use borrow.Author.Needs.{needs}
 use Rattle.vdp_tape.proofs.record.store_good.Statement.{statement}
 use Rattle.vdp_tape.proofs.record.store_good.Tie as tie
 
-returns : tie.Need-returns
-returns c = simp (c .enum-told .given .1)
-
-returns-2 : tie.Need-returns-2
-returns-2 c = simp (c .before .store .given .1)
-
-returns-3 : tie.Need-returns-3
-returns-3 c = simp (c .before .before .store2 .given .1, c .colour-word .ensures)
-
-returns-4 : tie.Need-returns-4
-returns-4 c = simp (c .before .store3 .given .1)
-
-returns-5 : tie.Need-returns-5
-returns-5 c = simp (c .before .store4 .given .1)
-
 pub store-good-spec : {M : Type 1} → statement M
 store-good-spec =
     tie.close
@@ -31,8 +16,8 @@ store-good-spec =
     (λ c. search needs)
     (λ c. search needs)
     (λ c. search needs)
-    returns
-    returns-2
-    returns-3
-    returns-4
-    returns-5)
+    (λ c. simp (c .enum-told .given .1))
+    (λ c. simp (c .before .store .given .1))
+    (λ c. simp (c .before .before .store2 .given .1, c .colour-word .ensures))
+    (λ c. simp (c .before .store3 .given .1))
+    (λ c. simp (c .before .store4 .given .1)))

@@ -4,18 +4,6 @@ use borrow.Author.Tests.{ne-eqb}
 use Rattle.vdp_tape.proofs.record.store_of.Statement.{statement}
 use Rattle.vdp_tape.proofs.record.store_of.Tie as tie
 
-returns : tie.Need-returns
-returns c = simp (c .match .keys1)
-
-returns-2 : tie.Need-returns-2
-returns-2 c = simp (c .match .keys2)
-
-returns-3 : tie.Need-returns-3
-returns-3 c = simp (c .match .keys3)
-
-returns-4 : tie.Need-returns-4
-returns-4 c = simp (c .before .match .keys4)
-
 returns-5 : tie.Need-returns-5
 returns-5 c =
     let r = c .match .rest in
@@ -27,8 +15,8 @@ store-of-spec =
     (tie.spec
     (λ c. search needs)
     (λ c. search needs)
-    returns
-    returns-2
-    returns-3
-    returns-4
+    (λ c. simp (c .match .keys1))
+    (λ c. simp (c .match .keys2))
+    (λ c. simp (c .match .keys3))
+    (λ c. simp (c .before .match .keys4))
     returns-5)

@@ -14,17 +14,11 @@ Inv-loop tape₀ at bytes i₀ tape i = (length tape ≡ length tape₀) × (at 
 abbrev μ-loop : tie.MeasureT-loop
 μ-loop tape₀ at bytes i₀ tape i = length bytes - i
 
-loop-holds : tie.Need-loop-holds Inv-loop μ-loop
-loop-holds c = (refl, c .pre, sets-start (c .args .tape .now) (c .args .at) (c .args .bytes .now))
-
 loop-again : tie.Need-loop-again Inv-loop μ-loop
 loop-again c =
     let l = c .before .before .loop in
     let a = c .before .before .before .args in
     (length-set (l .tape) _ _ ∙ l .inv .0, simp length-set (l .inv .1), sets-turn (l .tape) (a .at) (a .bytes .now) (l .i) (c .before .loop-test .taken) ∙ l .inv .2)
-
-same-length : tie.Need-same-length Inv-loop μ-loop
-same-length c = c .before .loop .inv .0
 
 returns : tie.Need-returns Inv-loop μ-loop
 returns c =
@@ -38,12 +32,12 @@ put-record-spec =
     (tie.spec
     Inv-loop
     μ-loop
-    loop-holds
+    (λ c. (refl, c .pre, sets-start (c .args .tape .now) (c .args .at) (c .args .bytes .now)))
     (λ c. search needs)
     (λ c. search needs)
     (λ c. search needs)
     (λ c. search needs)
     (λ c. search needs)
     loop-again
-    same-length
+    (λ c. c .before .loop .inv .0)
     returns)

@@ -21,9 +21,6 @@ passed t =
       le-ltb (capacity (a .tape .now)) (a .count) (subst (λ (n : ℕ). a .count ≤ n) (t .before .capacity .ensures) (t .if3 .left)),
     )
 
-returns : tie.Need-returns
-returns c = simp (sym (c .before .good2 .ensures) ∙ not-true _ (c .if1 .taken))
-
 returns-2 : tie.Need-returns-2
 returns-2 c = simp (sym (c .before .before .good2 .ensures) ∙ not-false _ (c .before .if1 .left), ne-eqb _ _ (c .if2 .taken))
 
@@ -62,7 +59,7 @@ back-number-spec =
     tie.close
     (tie.spec
     (λ c κs. search needs)
-    returns
+    (λ c. simp (sym (c .before .good2 .ensures) ∙ not-true _ (c .if1 .taken)))
     returns-2
     (λ c κs. search needs)
     returns-3

@@ -37,9 +37,6 @@ loop-again c =
           (p .ensures ∙ ap (perform (chip (l .next) (l .vram))) (c .before .before .before .step-of .ensures ∙ ap stepOf (record-part (a .tape .now) (l .top) (l .left)))) ∙ l .inv .3,
     )
 
-same-length : tie.Need-same-length Inv-loop μ-loop
-same-length c = c .before .loop .inv .2
-
 returns : tie.Need-returns Inv-loop μ-loop
 returns c =
     let l = c .before .loop in
@@ -64,5 +61,5 @@ undo-spec =
     (λ c κs. search needs)
     (λ c. search needs)
     loop-again
-    same-length
+    (λ c. c .before .loop .inv .2)
     returns)
