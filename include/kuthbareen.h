@@ -1,12 +1,14 @@
-/* Kuthbareen for C: the VDP (mode 5) of the Sega Genesis, access by access, as document 01 defines it.
+/* Kuthbareen for C: the VDP (mode 5) of the Sega Genesis, access by access, as docs/DEFINITION.md defines it.
  *
- * Hold one kuthbareen_state and 65,536 bytes of VRAM for each chip and lend both to every call. Link with
- * libkuthbareen.a, which examples/build makes.
+ * Hold one kuthbareen_state and 65,536 bytes of VRAM for each chip and lend both to every call. To step back, hold a
+ * tape and its count too and make the recorded calls. Link with libkuthbareen.a, which examples/build makes.
  *
  * What a caller owes:
  *   - a state comes from kuthbareen_fresh, or has every field set; its bools hold 0 or 1, as C keeps them;
  *   - a pointer with a count is that many bytes and is never NULL, also where the count is 0;
- *   - memory that a call may write (no const) overlaps nothing else that the call is lent.
+ *   - memory that a call may write (no const) overlaps nothing else that the call is lent;
+ *   - the count of a tape is 0 at first, and then the one that the last call on this tape gave; between two such calls
+ *     neither the tape nor the state nor VRAM is changed by anything else, else a step back leads elsewhere.
  * Nothing else: any numbers and any counts are answered, and a refused call leaves all it was lent as it came.
  * Compare states field by field; the bytes between fields are not kept. */
 #ifndef KUTHBAREEN_H
@@ -41,8 +43,12 @@ enum {
     KUTHBAREEN_RAM_SIZE = 65536,
     KUTHBAREEN_MOST_CARTRIDGE = 4194304,
     KUTHBAREEN_LINE_SIZE = 320,
-    KUTHBAREEN_ROW_SIZE = 8
+    KUTHBAREEN_ROW_SIZE = 8,
+    KUTHBAREEN_RECORD_SIZE = 32
 };
+
+/* How many steps a tape of n bytes can hold. */
+#define KUTHBAREEN_TAPE_CAPACITY(n) ((n) / KUTHBAREEN_RECORD_SIZE)
 
 /* The address and code registers, and whether the second half of a command is awaited. */
 typedef struct {
@@ -87,6 +93,13 @@ typedef struct {
     uint32_t result; /* the word read, the units made or the sprites visited, else 0 */
 } kuthbareen_answer;
 
+/* What a call on a tape gives back. */
+typedef struct {
+    uint8_t number;  /* one of the numbers above */
+    uint32_t result; /* as of the plain call */
+    size_t count;    /* the records on the tape, for the next call */
+} kuthbareen_recorded;
+
 /* A fresh state: all zero, PAL as asked. */
 kuthbareen_state kuthbareen_fresh(bool pal);
 
@@ -121,6 +134,42 @@ kuthbareen_answer kuthbareen_run(kuthbareen_state *state, uint8_t *vram, size_t 
  * many sprites were visited. */
 kuthbareen_answer kuthbareen_line(kuthbareen_state *state, const uint8_t *vram, size_t vram_size, uint32_t line,
                                   uint8_t *pixels, size_t pixels_size);
+
+/* The recorded calls do what the calls above do and put a record on the tape for each step; a run has a step for each
+ * unit. A tape without room for all of a call's steps refuses it. */
+kuthbareen_recorded kuthbareen_recorded_control_write(kuthbareen_state *state, uint8_t *tape, size_t tape_size,
+                                                      size_t count, uint16_t word);
+
+kuthbareen_recorded kuthbareen_recorded_control_write_byte(kuthbareen_state *state, uint8_t *tape, size_t tape_size,
+                                                           size_t count, uint8_t byte);
+
+kuthbareen_recorded kuthbareen_recorded_data_write(kuthbareen_state *state, uint8_t *vram, size_t vram_size,
+                                                   uint8_t *tape, size_t tape_size, size_t count, uint16_t word);
+
+kuthbareen_recorded kuthbareen_recorded_data_write_byte(kuthbareen_state *state, uint8_t *vram, size_t vram_size,
+                                                        uint8_t *tape, size_t tape_size, size_t count, uint8_t byte);
+
+kuthbareen_recorded kuthbareen_recorded_data_read(kuthbareen_state *state, const uint8_t *vram, size_t vram_size,
+                                                  uint8_t *tape, size_t tape_size, size_t count);
+
+kuthbareen_recorded kuthbareen_recorded_status_read(kuthbareen_state *state, uint8_t *tape, size_t tape_size,
+                                                    size_t count);
+
+kuthbareen_recorded kuthbareen_recorded_new_frame(kuthbareen_state *state, uint8_t *tape, size_t tape_size,
+                                                  size_t count);
+
+kuthbareen_recorded kuthbareen_recorded_run(kuthbareen_state *state, uint8_t *vram, size_t vram_size,
+                                            const uint8_t *cartridge, size_t cartridge_size, const uint8_t *ram,
+                                            size_t ram_size, uint8_t *tape, size_t tape_size, size_t count,
+                                            uint32_t budget);
+
+kuthbareen_recorded kuthbareen_recorded_line(kuthbareen_state *state, const uint8_t *vram, size_t vram_size,
+                                             uint8_t *tape, size_t tape_size, size_t count, uint32_t line,
+                                             uint8_t *pixels, size_t pixels_size);
+
+/* Takes the last k steps back: state and VRAM are as before them, and the count is k less. The tape's bytes stay. */
+kuthbareen_recorded kuthbareen_step_back(kuthbareen_state *state, uint8_t *vram, size_t vram_size, const uint8_t *tape,
+                                         size_t tape_size, size_t count, size_t k);
 
 /* The parts of a colour word, given register 0: 256 x blue + 16 x green + red, each 0 to 7. Never refused. */
 uint32_t kuthbareen_colour_parts(uint16_t word, uint8_t register0);

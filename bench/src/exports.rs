@@ -50,17 +50,31 @@ pub struct Answer {
     pub result: u32,
 }
 
+// What a call on a tape gives.
+#[repr(C)]
+#[derive(Clone, Copy, Debug, PartialEq)]
+pub struct Recorded {
+    pub number: u8,
+    pub result: u32,
+    pub count: usize,
+}
+
 pub const DONE: u8 = 0;
 pub const BAD_STATE: u8 = 1;
+pub const BAD_BUFFER: u8 = 2;
 pub const BUSY: u8 = 3;
 pub const NOT_MODELLED: u8 = 4;
 pub const NO_SUCH_PLACE: u8 = 5;
+pub const TAPE_FULL: u8 = 6;
 pub const SOURCE_NOT_LENT: u8 = 7;
+pub const BAD_RECORD: u8 = 8;
+pub const NOTHING_THERE: u8 = 10;
 
 pub const LINE_SIZE: usize = 320;
+pub const RECORD_SIZE: usize = 32;
 
 mod c {
-    use super::{Answer, State};
+    use super::{Answer, Recorded, State};
 
     extern "C" {
         pub fn kuthbareen_fresh(pal: bool) -> State;
@@ -89,6 +103,37 @@ mod c {
             pixels: *mut u8,
             pixels_size: usize,
         ) -> Answer;
+        pub fn kuthbareen_recorded_data_write(
+            state: *mut State,
+            vram: *mut u8,
+            vram_size: usize,
+            tape: *mut u8,
+            tape_size: usize,
+            count: usize,
+            word: u16,
+        ) -> Recorded;
+        pub fn kuthbareen_recorded_run(
+            state: *mut State,
+            vram: *mut u8,
+            vram_size: usize,
+            cartridge: *const u8,
+            cartridge_size: usize,
+            ram: *const u8,
+            ram_size: usize,
+            tape: *mut u8,
+            tape_size: usize,
+            count: usize,
+            budget: u32,
+        ) -> Recorded;
+        pub fn kuthbareen_step_back(
+            state: *mut State,
+            vram: *mut u8,
+            vram_size: usize,
+            tape: *const u8,
+            tape_size: usize,
+            count: usize,
+            k: usize,
+        ) -> Recorded;
     }
 }
 
@@ -139,6 +184,76 @@ pub fn line(state: &mut State, vram: &[u8], line: u32, pixels: &mut [u8]) -> Ans
             line,
             pixels.as_mut_ptr(),
             pixels.len(),
+        )
+    }
+}
+
+pub fn recorded_data_write(
+    state: &mut State,
+    vram: &mut [u8],
+    tape: &mut [u8],
+    count: usize,
+    word: u16,
+) -> Recorded {
+    // SAFETY: as above.
+    unsafe {
+        c::kuthbareen_recorded_data_write(
+            state,
+            vram.as_mut_ptr(),
+            vram.len(),
+            tape.as_mut_ptr(),
+            tape.len(),
+            count,
+            word,
+        )
+    }
+}
+
+// A run that no cartridge is lent to.
+pub fn recorded_run(
+    state: &mut State,
+    vram: &mut [u8],
+    ram: &[u8],
+    tape: &mut [u8],
+    count: usize,
+    budget: u32,
+) -> Recorded {
+    let cartridge: &[u8] = &[];
+    // SAFETY: as above.
+    unsafe {
+        c::kuthbareen_recorded_run(
+            state,
+            vram.as_mut_ptr(),
+            vram.len(),
+            cartridge.as_ptr(),
+            cartridge.len(),
+            ram.as_ptr(),
+            ram.len(),
+            tape.as_mut_ptr(),
+            tape.len(),
+            count,
+            budget,
+        )
+    }
+}
+
+pub fn step_back(
+    state: &mut State,
+    vram: &mut [u8],
+    tape: &[u8],
+    count: usize,
+    k: usize,
+) -> Recorded {
+    // SAFETY: as above.
+    unsafe {
+        c::kuthbareen_step_back(
+            state,
+            vram.as_mut_ptr(),
+            vram.len(),
+            tape.as_ptr(),
+            tape.len(),
+            count,
+            k,
         )
     }
 }

@@ -1,11 +1,19 @@
-// A chip with its VRAM and its screen, beside the work RAM of its 68000, and what makes it ready for a piece of work.
-use crate::exports::{control_write, data_write, fresh, State, DONE, LINE_SIZE};
+// A chip with its VRAM, its screen and its tape, beside the work RAM of its 68000, and what makes it ready for each
+// piece of work.
+use crate::exports::{
+    control_write, data_write, fresh, recorded_data_write, State, DONE, LINE_SIZE, RECORD_SIZE,
+};
 
 pub const MEMORY_SIZE: usize = 65_536;
 
 pub type Memory = [u8; MEMORY_SIZE];
 
 pub const LINES: usize = 224;
+
+// Room for a step for each byte of VRAM.
+const TAPE_SIZE: usize = MEMORY_SIZE * RECORD_SIZE;
+
+pub const RECORDED_WRITES: u32 = 10_000;
 
 // The lines drawn, and the sprites that were visited for each.
 #[derive(Clone, PartialEq)]
@@ -24,6 +32,8 @@ pub struct Machine {
     pub vram: Box<Memory>,
     pub ram: Box<Memory>,
     pub screen: Box<Screen>,
+    pub tape: Vec<u8>,
+    pub count: usize,
 }
 
 impl Machine {
@@ -33,6 +43,8 @@ impl Machine {
             vram: Box::new([0; MEMORY_SIZE]),
             ram: Box::new([0; MEMORY_SIZE]),
             screen: Box::new(CLEARED),
+            tape: vec![0; TAPE_SIZE],
+            count: 0,
         }
     }
 
@@ -42,6 +54,8 @@ impl Machine {
         self.vram.fill(0);
         self.ram.fill(0);
         *self.screen = CLEARED;
+        self.tape.fill(0);
+        self.count = 0;
     }
 
     fn control(&mut self, words: &[u16]) {
@@ -122,4 +136,15 @@ pub fn scene(m: &mut Machine) {
 // Data writes to VRAM from address 0, step 2.
 pub fn data_writes(m: &mut Machine) {
     m.control(&[0x8F02, 0x4000, 0x0000]);
+}
+
+// Data writes that have been recorded, from the same beginning.
+pub fn recorded_writes(m: &mut Machine) {
+    data_writes(m);
+    for i in 0..RECORDED_WRITES {
+        let word = (i * 5 + 1) as u16;
+        let r = recorded_data_write(&mut m.state, &mut m.vram[..], &mut m.tape, m.count, word);
+        assert_eq!(r.number, DONE);
+        m.count = r.count;
+    }
 }

@@ -67,6 +67,8 @@ fn compare(
         (ours.vram == plain.vram, "VRAM differs"),
         (ours.ram == plain.ram, "work RAM differs"),
         (ours.screen == plain.screen, "pixels or visits differ"),
+        (ours.tape == plain.tape, "the tapes differ"),
+        (ours.count == plain.count, "the tapes' counts differ"),
     ];
     match checks.iter().find(|(holds, _)| !holds) {
         Some((_, what)) => Err(format!("{}: {what}", work.name)),

@@ -1,6 +1,6 @@
-// The same work as a plain Rust program would do it, unit by unit on the lent state, by the rules of document 01 (Ports
-// and DMA). Buffers are arrays, so that no store needs a bounds check. Calls are never inlined, as those of the library
-// are not.
+// The same work as a plain Rust program would do it, unit by unit on the lent state, by the rules of docs/DEFINITION.md
+// (Ports and DMA). Buffers are arrays, so that no store needs a bounds check. Calls are never inlined, as those of the
+// library are not.
 use crate::exports::{Answer, Control, Dma, State, BAD_STATE, BUSY, DONE, SOURCE_NOT_LENT};
 use crate::machine::Memory;
 
@@ -8,15 +8,20 @@ const WORK_RAM: u32 = 0xE0_0000;
 
 // GOOD, as the library asks it of every state.
 pub fn good(state: &State) -> bool {
-    let dma = &state.control.dma;
+    state.cram.iter().all(|w| w & !0x0EEE == 0)
+        && state.vsram.iter().all(|w| *w <= 0x3FF)
+        && control_good(&state.control)
+}
+
+// What GOOD says of the port and of DMA.
+pub fn control_good(control: &Control) -> bool {
+    let dma = &control.dma;
     let source_good = match dma.kind {
         2 => dma.source & 1 == 0 && dma.source < 0x100_0000,
         4 => dma.source < 0x1_0000,
         _ => dma.source == 0,
     };
-    state.cram.iter().all(|w| w & !0x0EEE == 0)
-        && state.vsram.iter().all(|w| *w <= 0x3FF)
-        && state.control.port.code <= 63
+    control.port.code <= 63
         && dma.kind <= 4
         && dma.remaining <= 65_535
         && (dma.remaining == 0) == (dma.kind <= 1)
@@ -193,7 +198,7 @@ fn word_from(cartridge: &[u8], ram: &Memory, source: u32) -> u16 {
     }
 }
 
-fn fill(state: &mut State, vram: &mut Memory, units: u32) {
+pub fn fill(state: &mut State, vram: &mut Memory, units: u32) {
     let stores = state.control.port.code & 0b1111 == 0b0001;
     for _ in 0..units {
         if stores {

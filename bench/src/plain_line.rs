@@ -1,5 +1,6 @@
-// A line as a plain Rust program would draw it, by the rules of document 01 (Drawing): what the registers say is worked
-// out once a line, the sprites are painted into a line of dots, and then each column asks both planes for theirs.
+// A line as a plain Rust program would draw it, by the rules of docs/DEFINITION.md (Drawing): what the registers say is
+// worked out once a line, the sprites are painted into a line of dots, and then each column asks both planes for
+// theirs.
 // Addresses have 16 bits, so that no read of VRAM needs a bounds check.
 use std::ops::Range;
 

@@ -1,9 +1,9 @@
 // The pieces of work: how a machine is made ready, and the work as the library and as plain Rust do it.
 use std::hint::black_box;
 
-use crate::exports::{self, Answer, State, DONE, LINE_SIZE};
-use crate::machine::{self, Machine, Memory, Screen, LINES};
-use crate::{plain, plain_line};
+use crate::exports::{self, Answer, Recorded, State, DONE, LINE_SIZE};
+use crate::machine::{self, Machine, Memory, Screen, LINES, RECORDED_WRITES};
+use crate::{plain, plain_line, plain_tape};
 
 const LONGEST_RUN: u32 = 65_535;
 
@@ -35,6 +35,27 @@ pub fn all() -> Vec<Work> {
             ours: our_lines,
             plain: plain_lines,
         },
+        Work {
+            name: "recorded data write",
+            units: RECORDED_WRITES,
+            make_ready: machine::data_writes,
+            ours: our_recorded_writes,
+            plain: plain_recorded_writes,
+        },
+        Work {
+            name: "recorded fill",
+            units: LONGEST_RUN,
+            make_ready: machine::fill,
+            ours: our_recorded_fill,
+            plain: plain_recorded_fill,
+        },
+        backs("step back of 1", our_backs::<1>, plain_backs::<1>),
+        backs("step back of 100", our_backs::<100>, plain_backs::<100>),
+        backs(
+            "step back of 10,000",
+            our_backs::<10_000>,
+            plain_backs::<10_000>,
+        ),
     ]
 }
 
@@ -54,6 +75,21 @@ fn writes(name: &'static str, plain: fn(&mut Machine) -> Answer) -> Work {
         units: DATA_WRITES,
         make_ready: machine::data_writes,
         ours: our_writes,
+        plain,
+    }
+}
+
+// All recorded writes are taken back.
+fn backs(
+    name: &'static str,
+    ours: fn(&mut Machine) -> Answer,
+    plain: fn(&mut Machine) -> Answer,
+) -> Work {
+    Work {
+        name,
+        units: RECORDED_WRITES,
+        make_ready: machine::recorded_writes,
+        ours,
         plain,
     }
 }
@@ -122,5 +158,74 @@ fn draw_all(
     Answer {
         number: DONE,
         result: done,
+    }
+}
+
+// A form of the recorded data write, or of the step back by a number of steps: state, VRAM, tape, count, and the rest.
+type OnTape<T> = fn(&mut State, &mut Memory, &mut [u8], usize, T) -> Recorded;
+
+fn our_recorded_writes(m: &mut Machine) -> Answer {
+    record_writes(m, |state, vram, tape, count, word| {
+        exports::recorded_data_write(state, vram, tape, count, word)
+    })
+}
+
+fn plain_recorded_writes(m: &mut Machine) -> Answer {
+    record_writes(m, plain_tape::data_write)
+}
+
+fn record_writes(m: &mut Machine, write: OnTape<u16>) -> Answer {
+    for i in 0..RECORDED_WRITES {
+        let word = black_box((i * 5 + 1) as u16);
+        m.count = write(&mut m.state, &mut m.vram, &mut m.tape, m.count, word).count;
+    }
+    Answer {
+        number: DONE,
+        result: m.count as u32,
+    }
+}
+
+fn our_recorded_fill(m: &mut Machine) -> Answer {
+    let (vram, ram) = (&mut m.vram[..], &m.ram[..]);
+    let filled = exports::recorded_run(&mut m.state, vram, ram, &mut m.tape, m.count, ALL);
+    keep_count(m, filled)
+}
+
+fn plain_recorded_fill(m: &mut Machine) -> Answer {
+    let budget = black_box(ALL);
+    let filled = plain_tape::fill(&mut m.state, &mut m.vram, &mut m.tape, m.count, budget);
+    keep_count(m, filled)
+}
+
+fn keep_count(m: &mut Machine, recorded: Recorded) -> Answer {
+    m.count = recorded.count;
+    Answer {
+        number: recorded.number,
+        result: recorded.result,
+    }
+}
+
+fn our_backs<const K: usize>(m: &mut Machine) -> Answer {
+    step_back_by(m, K, |state, vram, tape, count, k| {
+        exports::step_back(state, vram, tape, count, k)
+    })
+}
+
+fn plain_backs<const K: usize>(m: &mut Machine) -> Answer {
+    step_back_by(m, K, |state, vram, tape, count, k| {
+        plain_tape::step_back(state, vram, tape, count, k)
+    })
+}
+
+// Steps back by k until nothing is left, and counts the steps.
+fn step_back_by(m: &mut Machine, k: usize, back: OnTape<usize>) -> Answer {
+    let begun = m.count;
+    for _ in 0..begun / k {
+        let k = black_box(k);
+        m.count = back(&mut m.state, &mut m.vram, &mut m.tape, m.count, k).count;
+    }
+    Answer {
+        number: DONE,
+        result: (begun - m.count) as u32,
     }
 }

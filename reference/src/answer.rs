@@ -1,4 +1,4 @@
-//! The numbers a call may answer (document 01, "Numbers a call may answer").
+//! The numbers a call may answer (definition, Numbers a call may answer).
 
 pub type Answer = u8;
 

@@ -1,5 +1,5 @@
 //! The book: full copies of state and VRAM, one page a step, to hold against the tape
-//! (document 01, "The book for demand 3"). It never looks at a record.
+//! (definition, The book). It never looks at a record.
 
 use crate::answer::{
     need, Answer, BAD_BUFFER, BAD_STATE, BUSY, DONE, NOTHING_THERE, NOT_MODELLED, NO_SUCH_PLACE,

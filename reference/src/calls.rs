@@ -1,5 +1,5 @@
 //! The calls as a caller meets them: first the refusals in their order, then the work.
-//! A call with a tape is the recorded form, without one the plain form (document 01, "Numbers").
+//! A call with a tape is the recorded form, without one the plain form (definition, The tape).
 
 use crate::answer::{
     need, Answer, Reply, BAD_BUFFER, BAD_RECORD, BAD_STATE, BUSY, NOTHING_THERE, NOT_MODELLED,

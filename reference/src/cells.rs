@@ -1,4 +1,4 @@
-//! The one cell a step stores to, told beforehand for the tape (document 01, The tape).
+//! The one cell a step stores to, told beforehand for the tape (definition, The tape).
 //! ports.rs and dma.rs carry the steps out and know nothing of cells. So a cell that is told wrong
 //! shows as a difference from the book, which keeps full copies and never asks for one.
 

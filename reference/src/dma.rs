@@ -1,5 +1,5 @@
 //! DMA: how it starts, what one unit does and where a transfer finds its words
-//! (document 01, DMA; notes s11).
+//! (definition, DMA; notes s11).
 
 use crate::ports;
 use crate::state::{State, Vram, COPY, FILL, FILL_WAITING, IDLE, TRANSFER};

@@ -1,5 +1,5 @@
 //! Drawing a line: what is not modelled, and the layers put together
-//! (document 01, Drawing; notes s14, s17).
+//! (definition, Drawing; notes s14, s17).
 
 use crate::answer::Answer;
 use crate::planes::{self, horizontal_scroll, plane_dot, window_dot, Dot, Plane, View};

@@ -1,6 +1,8 @@
-//! An independent second program for the chip of document 01, written without a look at the proved
-//! one. Where document 01 leaves a choice it follows docs/DECISIONS.md.
-//! Reads and makes replay streams, and counts which rules the streams meet.
+//! An independent second program for the chip of docs/DEFINITION.md, which comments here cite as
+//! "definition". It was written from the rules in words, without a look at the proved program or
+//! its definitions. Where the rules left a choice its author had our readings, so there the two
+//! agree because both follow the reading; docs/DECISIONS.md lists them.
+//! Reads and makes replay streams (docs/STREAM.md), and counts which rules the streams meet.
 //! The chip's description is Charles MacDonald's "Sega Genesis VDP documentation", 1.5f.
 
 #![forbid(unsafe_code)]

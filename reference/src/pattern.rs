@@ -1,4 +1,5 @@
-//! Pattern pixels and colour parts (document 01, Ports and Drawing; notes s9, s12, s17).
+//! Pattern pixels and colour parts (definition, Calls for a host program and
+//! Drawing; notes s9, s12, s17).
 
 use crate::state::Vram;
 

@@ -1,4 +1,4 @@
-//! The screen's size, the two planes and the window (document 01, Drawing; notes s12, s13, s17).
+//! The screen's size, the two planes and the window (definition, Drawing; notes s12, s13, s17).
 
 use crate::answer::{Answer, TABLE_PAST_END};
 use crate::pattern;
@@ -87,7 +87,7 @@ pub enum Plane {
     B,
 }
 
-/// Cells for a size code; code 2 has no size (document 01, answer 4).
+/// Cells for a size code; code 2 has no size (definition, Drawing: answer 4).
 pub fn cells(code: u8) -> Option<usize> {
     match code & 3 {
         0 => Some(32),

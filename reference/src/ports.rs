@@ -1,5 +1,5 @@
 //! What each port access does to the state and VRAM, once it is accepted
-//! (document 01, Ports; notes s7 to s10). Refusals are in calls.rs.
+//! (definition, Ports; notes s7 to s10). Refusals are in calls.rs.
 
 use crate::dma;
 use crate::state::{State, Vram, COLOUR_BITS, FILL_WAITING, IDLE, REGISTERS, SCROLLS, SCROLL_MOST};

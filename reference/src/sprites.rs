@@ -1,4 +1,4 @@
-//! The sprite walk and the sprites' pixels on one line (document 01, Drawing; notes s15).
+//! The sprite walk and the sprites' pixels on one line (definition, Drawing; notes s15).
 
 use crate::answer::Answer;
 use crate::pattern;

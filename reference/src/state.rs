@@ -1,4 +1,4 @@
-//! The chip's state and what makes it GOOD (document 01, "The state").
+//! The chip's state and what makes it GOOD (definition, The state).
 
 pub const VRAM_BYTES: usize = 65_536;
 pub const REGISTERS: usize = 24;

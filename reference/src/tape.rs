@@ -1,5 +1,5 @@
 //! The tape: its records of 32 bytes, writing one, checking one, going back over one
-//! (document 01, The tape).
+//! (definition, The tape).
 
 use crate::cells::{Cell, CELL_COLOUR, CELL_NONE, CELL_REGISTER, CELL_SCROLL, CELL_VRAM, NONE};
 use crate::state::{State, Vram, COLOURS, COLOUR_BITS, REGISTERS, SCROLLS, SCROLL_MOST};

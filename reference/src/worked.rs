@@ -1,4 +1,4 @@
-//! Tests: the worked cases of document 01 with their values, the book beside generated
+//! Tests: worked cases with their values (definition, Worked cases), the book beside generated
 //! streams, and that generators give the same stream each time.
 
 use crate::answer::{
@@ -12,7 +12,7 @@ use crate::replay::{commands, Command, Machine};
 use crate::state::{State, COPY, FILL, FILL_WAITING, IDLE, TRANSFER};
 use crate::streams::{stream, Kind};
 
-/// A machine with a call for each op, so that the cases read like the paper.
+/// A machine with a call for each op, so that the cases read like the definition.
 struct Bench(Machine);
 
 impl Bench {

@@ -1,6 +1,13 @@
 // Lines of output: the case, and what was got as hexadecimal digits.
 use libc::STDOUT_FILENO;
 
+// A value of a case by its own name.
+pub fn named(name: &[u8], value: &[u8], got: u64) {
+    io::write_all(STDOUT_FILENO, name);
+    io::write_all(STDOUT_FILENO, b": ");
+    number(value, got);
+}
+
 pub fn number(name: &[u8], got: u64) {
     io::write_all(STDOUT_FILENO, name);
     io::write_all(STDOUT_FILENO, b": ");

@@ -1,9 +1,9 @@
-// Ops 1 to 12: the commands that call the model. A call that this program does not serve does nothing and prints
-// nothing.
+// Ops 1 to 12: the commands that call the model.
 use crate::command::Command;
 use crate::line::call_line;
 use crate::machine::CARTRIDGE;
 use crate::machine::Machine;
+use crate::machine::PIXELS;
 use crate::machine::ROW;
 use crate::machine::VRAM;
 use crate::machine::WORK_RAM;
@@ -14,14 +14,15 @@ use crate::recorded::recorded_call;
 use crate::turn::Turn;
 use crate::turn::silent;
 use vdp_dma::run::run;
+use vdp_host::colour::kuthbareen_colour_parts;
 use vdp_host::row::kuthbareen_pattern_row;
+use vdp_line::line::line;
 use vdp_ports::control::control_write;
 use vdp_ports::control::control_write_byte;
 use vdp_ports::data::data_read;
 use vdp_ports::data::data_write;
 use vdp_ports::data::data_write_byte;
 use vdp_ports::frame::new_frame;
-use vdp_ports::parts::colour_parts;
 use vdp_ports::status::status_read;
 use vdp_state::answer::Answer;
 use vdp_state::answer::DONE;
@@ -70,23 +71,35 @@ fn run_turn<'a>(
     answered(m, k.op, answer)
 }
 
+// Op 8, plain.
+fn line_turn(m: Machine, k: Command, vram: &[u8], pixels: &mut [u8]) -> Turn {
+    let v = lent(m, VRAM, vram.len());
+    let p = lent(m, PIXELS, pixels.len());
+    answered(m, k.op, line(m.state, &vram[..v], k.c, &mut pixels[..p]))
+}
+
 // Ops 1 to 9 with `recorded` 0.
-fn plain<'a>(m: Machine, k: Command, vram: &mut [u8], cartridge: &'a [u8], ram: &'a [u8]) -> Turn {
+fn plain<'a>(
+    m: Machine,
+    k: Command,
+    vram: &mut [u8],
+    cartridge: &'a [u8],
+    ram: &'a [u8],
+    pixels: &mut [u8],
+) -> Turn {
     let op = k.op;
     match op {
-        1..=6 | 9 => port_turn(m, k, vram),
         7 => run_turn(m, k, vram, cartridge, ram),
-        _ => silent(m),
+        8 => line_turn(m, k, vram, pixels),
+        _ => port_turn(m, k, vram),
     }
 }
 
 // Op 12, which is never refused.
 fn parts(m: Machine, k: Command) -> Turn {
-    let p = colour_parts(k.b, k.a);
-    let result = (p.blue as u32) * 256 + (p.green as u32) * 16 + (p.red as u32);
     Turn {
         machine: m,
-        line: call_line(k.op, DONE, result, m.count),
+        line: call_line(k.op, DONE, kuthbareen_colour_parts(k.b, k.a), m.count),
     }
 }
 
@@ -115,15 +128,16 @@ pub fn call<'a>(
     cartridge: &'a [u8],
     ram: &'a [u8],
     tape: &mut [u8],
+    pixels: &mut [u8],
     row: &mut [u8],
 ) -> Turn {
     let op = k.op;
     match op {
         1..=9 => {
             if m.recorded {
-                recorded_call(m, k, vram, cartridge, ram, tape)
+                recorded_call(m, k, vram, cartridge, ram, tape, pixels)
             } else {
-                plain(m, k, vram, cartridge, ram)
+                plain(m, k, vram, cartridge, ram, pixels)
             }
         }
         10 => back_turn(m, k, vram, tape),

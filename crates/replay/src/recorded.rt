@@ -1,15 +1,15 @@
-// The calls that use the tape and its count: ops 1 to 7 and 9 with `recorded` 1, and op 10.
+// The calls that use the tape and its count: ops 1 to 9 with `recorded` 1, and op 10.
 use crate::command::Command;
 use crate::line::call_line;
 use crate::machine::CARTRIDGE;
 use crate::machine::Machine;
+use crate::machine::PIXELS;
 use crate::machine::TAPE;
 use crate::machine::VRAM;
 use crate::machine::WORK_RAM;
 use crate::machine::lent;
 use crate::machine::with_state;
 use crate::turn::Turn;
-use crate::turn::silent;
 use vdp_state::state::State;
 use vdp_tape::calls::control_write;
 use vdp_tape::calls::control_write_byte;
@@ -19,6 +19,7 @@ use vdp_tape::calls::data_write_byte;
 use vdp_tape::calls::new_frame;
 use vdp_tape::calls::run;
 use vdp_tape::calls::status_read;
+use vdp_tape::line::line;
 use vdp_tape::recorder::TapeAnswer;
 use vdp_tape::step_back::step_back;
 
@@ -88,6 +89,23 @@ fn run_turn<'a>(
     answered(m, k.op, done)
 }
 
+// Op 8, recorded.
+fn line_turn(m: Machine, k: Command, vram: &[u8], tape: &mut [u8], pixels: &mut [u8]) -> Turn {
+    let v = lent(m, VRAM, vram.len());
+    let t = lent(m, TAPE, tape.len());
+    let p = lent(m, PIXELS, pixels.len());
+    let count = m.count as usize;
+    let r = line(
+        m.state,
+        &vram[..v],
+        &mut tape[..t],
+        count,
+        k.c,
+        &mut pixels[..p],
+    );
+    answered(m, k.op, r)
+}
+
 // Ops 1 to 9 with `recorded` 1.
 pub fn recorded_call<'a>(
     m: Machine,
@@ -96,12 +114,13 @@ pub fn recorded_call<'a>(
     cartridge: &'a [u8],
     ram: &'a [u8],
     tape: &mut [u8],
+    pixels: &mut [u8],
 ) -> Turn {
     let op = k.op;
     match op {
-        1..=6 | 9 => port_turn(m, k, vram, tape),
         7 => run_turn(m, k, vram, cartridge, ram, tape),
-        _ => silent(m),
+        8 => line_turn(m, k, vram, tape, pixels),
+        _ => port_turn(m, k, vram, tape),
     }
 }
 

@@ -27,7 +27,7 @@ fn turn(
 ) -> Turn {
     let op = k.op;
     match op {
-        1..=12 => call(m, k, vram, cartridge, ram, tape, row),
+        1..=12 => call(m, k, vram, cartridge, ram, tape, pixels, row),
         32..=39 => {
             let t = silent(set_numbers(m, k));
             set_buffers(k, vram, pixels, ram, cartridge, tape, row);

@@ -3,5 +3,7 @@
 // the proofs of the crate `lent` are about.
 pub mod answer;
 pub mod fresh;
+pub mod line;
 pub mod ports;
 pub mod run;
+pub mod tape;

@@ -2,3 +2,4 @@ pub mod Bounds
 pub mod Groups
 pub mod Made
 pub mod Accepted
+pub mod Decided

@@ -25,11 +25,13 @@ use Rattle.vdp_ports.specs.Status.{statusTests, statusStep, statusWord}
 use Rattle.vdp_ports.proofs.Decided.{control-good, write-good, read-good, status-good, frame-good}
 use Rattle.vdp_dma.specs.Run.{unitsMade}
 use Rattle.vdp_dma.proofs.Decided.{units-good}
+use Rattle.vdp_line.specs.Line.{lineTests, lineStep, visits}
+use Rattle.vdp_line.proofs.Decided.{line-good}
 use Rattle.vdp_tape.specs.Book.{Act, Make, StepBack, Book, newBook, enterBy, enter}
 use Rattle.vdp_tape.specs.Demand.{serve, Fits, AllFit, Seen, servedAll, enteredAll, Demand3, servedTo, enteredTo, StepBackTakesBack}
 use Rattle.vdp_tape.specs.Number.{capacity, recordedNumber}
 use Rattle.vdp_tape.specs.OneStep.{OffVram}
-use Rattle.vdp_tape.specs.Recorded.{Call, ControlWrite, DataWrite, DataRead, StatusRead, NewFrame, Run, planOf, recorded, plainOf, withoutTape, RecordedAsPlain}
+use Rattle.vdp_tape.specs.Recorded.{Call, ControlWrite, DataWrite, DataRead, StatusRead, NewFrame, Run, Line, planOf, recorded, plainOf, withoutTape, RecordedAsPlain}
 use Rattle.vdp_tape.specs.Recorder.{Recorder, recorder, recordStep, recordNext, recordSteps, Plan, tapeOutcomeAt, recordedBy}
 use Rattle.vdp_tape.specs.StepBack.{backTests}
 use Rattle.vdp_tape.proofs.Demand.{Alike, Together, plan-together, back-together}
@@ -45,6 +47,7 @@ in-range DataRead f c g = (read-good c g, tt)
 in-range StatusRead f c g = (status-good c g, tt)
 in-range NewFrame f c g = (frame-good c g, tt)
 in-range (Run cartridge ram budget) f c g = units-good cartridge ram (f .0) (f .1) (unitsMade (c .state) budget) c g (omega arith)
+in-range (Line n pixels) f c g = (line-good c g n, tt)
 
 -- a plan read with the present of the book is the plan read with the recorder's chip
 act-together : (a : Act) → Fits a → (r : Recorder) (b : Book) → Alike r b → Together (serve a r) (enter a b)
@@ -121,6 +124,7 @@ plain-is DataRead c = one-answered c (first (dataTests c)) (dataWord c) (dataRea
 plain-is StatusRead c = one-answered c (first (statusTests (c .state))) (statusWord (c .state)) (statusStep (c .state)) tt
 plain-is NewFrame c = one-answered c (first (frameTests (c .state))) 0 (frameStep (c .state)) tt
 plain-is (Run cartridge ram budget) c = refl
+plain-is (Line n pixels) c = one-answered c (first (lineTests c n pixels)) (visits c n) (lineStep c n) tt ∙ by-cases (eqb (first (lineTests c n pixels)) 0) (λ e. simp e) (λ e. simp e)
 
 pub recorded-as-plain : RecordedAsPlain
 recorded-as-plain call r e = plan-as-plain (planOf call (r .chip)) r e ∙ plain-is call (r .chip)

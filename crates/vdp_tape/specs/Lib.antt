@@ -1,5 +1,6 @@
 pub mod Book
 pub mod Demand
+pub mod Line
 pub mod Number
 pub mod OneStep
 pub mod Record

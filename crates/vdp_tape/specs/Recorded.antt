@@ -11,9 +11,10 @@ use Rattle.vdp_ports.specs.Frame.{frameTests, frameStep, newFrame}
 use Rattle.vdp_ports.specs.Status.{statusTests, statusStep, statusWord, statusRead}
 use Rattle.vdp_dma.specs.Run.{runTests, unitsMade, run}
 use Rattle.vdp_dma.specs.Unit.{unit}
+use Rattle.vdp_line.specs.Line.{lineTests, lineStep, visits, line}
 use Rattle.vdp_tape.specs.Recorder.{Recorder, Plan, TapeOutcome, recordedBy}
 
--- a recorded call with its arguments; "Cartridge, work RAM [..] may be others at each call". A byte write is the write of
+-- a recorded call with its arguments; "Cartridge, work RAM and pixel buffer may be others at each call". A byte write is the write of
 -- its `byteWord`.
 pub data Call : Type 0 where
   ControlWrite : ℕ → Call
@@ -22,6 +23,7 @@ pub data Call : Type 0 where
   StatusRead : Call
   NewFrame : Call
   Run : List ℕ → List ℕ → ℕ → Call
+  Line : ℕ → List ℕ → Call
 
 -- "Each port access, DMA unit, line and new frame is one step"
 abbrev pub once : List Test → ℕ → (Chip → Step) → Plan
@@ -41,6 +43,7 @@ planOf (Run cartridge ram budget) c =
       steps = unitsMade (c .state) budget;
       step = unit cartridge ram;
     }
+planOf (Line n pixels) c = once (lineTests c n pixels) (visits c n) (λ x. lineStep x n)
 
 -- what a recorded call leaves
 abbrev pub recorded : Call → Recorder → TapeOutcome
@@ -54,6 +57,7 @@ plainOf DataRead c = outcome (dataRead c) (c .vram)
 plainOf StatusRead c = outcome (statusRead (c .state)) (c .vram)
 plainOf NewFrame c = outcome (newFrame (c .state)) (c .vram)
 plainOf (Run cartridge ram budget) c = run c cartridge ram budget
+plainOf (Line n pixels) c = outcome (line c n pixels .answer) (c .vram)
 
 -- an outcome without its tape
 abbrev pub withoutTape : TapeOutcome → Outcome

@@ -32,7 +32,7 @@ use vdp_state::state::State;
 use vdp_state::state::Step;
 
 // A recorded call of one step that is lent no VRAM: whatever VRAM the caller holds stays.
-fn without_vram(
+pub(crate) fn without_vram(
     plain: u8,
     s: State,
     tape: &mut [u8],

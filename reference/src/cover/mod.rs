@@ -12,7 +12,7 @@ use crate::answer::{Answer, TABLE_PAST_END};
 use crate::check::number_in;
 use crate::replay::{Command, Machine};
 
-/// The answers that document 01 has for each op.
+/// The answers that each op may give (definition, Numbers a call may answer).
 const ANSWERS: [(u8, &[Answer]); 12] = [
     (1, &[0, 1, 2, 3, 6]),
     (2, &[0, 1, 2, 3, 6]),

@@ -1,8 +1,8 @@
 -- `kuthbareen_status_read` meets its contract, by the law of every thin function (`lent`).
 -- Assumes nothing.
 use mathlib.Core.List.{[], _∷_}
-use Rattle.lent.proofs.Lent.{further}
-use Rattle.vdp_lent.proofs.Held.{state, thin}
+use Rattle.lent.proofs.Lent.{further, lent-alike}
+use Rattle.vdp_lent.proofs.Held.{state, answer}
 use Rattle.vdp_ports.proofs.status.status_read.Symbol as g
 use Rattle.vdp_ports.proofs.status.status_read.Met.{met}
 use Rattle.vdp_lent.proofs.ports.kuthbareen_status_read as f
@@ -13,6 +13,6 @@ use Rattle.vdp_lent.proofs.ports.kuthbareen_status_read.Code as code
 pub kuthbareen-status-read-spec : {M : Type 1} → statement M
 unfolding code.routine
 kuthbareen-status-read-spec 𝓤 H 𝓜 𝓖 𝓡 =
-    thin 0 (further (f.signature .params)) (f.ended .kept .1) 𝓤 H 𝓜 𝓖 𝓡 code.env name g.name [] (λ κs. tt)
+    lent-alike answer 0 (further (f.signature .params)) (f.ended .kept .1) 𝓤 H 𝓜 𝓖 𝓡 code.env name g.name [] (λ κs. tt)
     (code.unfolded 𝓤 H 𝓜 𝓡) (f.clauses 𝓤 H (𝓖 .A) (𝓜 .mem) (𝓡 .run)) g.routine code.calls-vdp-ports·status·status-read
     (λ κs qs x a vss _. met 𝓤 H 𝓜 𝓖 𝓡 ((κs .1, qs .1, tt, (x .now, a), (state .val (x .now) ∷ [], vss)), tt))
