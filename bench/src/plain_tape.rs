@@ -1,4 +1,4 @@
-// The tape as a plain Rust program would keep it, by the rules of document 01 (The tape): a record of 32 bytes before
+// The tape as a plain Rust program would keep it, as docs/DEFINITION.md (The tape) has it: a record of 32 bytes before
 // each step, and a step back that puts back what the records hold. The data write and the fill are those of plain.rs.
 use crate::exports::{
     Control, Dma, Flags, Port, Recorded, State, BAD_BUFFER, BAD_RECORD, BAD_STATE, BUSY, DONE,

@@ -1,4 +1,4 @@
-// Runs the worked cases of document 01 on the code and prints what was got, a line for each case.
+// Runs the worked cases (definition, Worked cases) and others on the code, and prints a line for each value.
 mod dma_cases;
 mod drawing_cases;
 mod port_cases;

@@ -1,4 +1,4 @@
--- The starred cases of document 01 hold of the definitions: one claim over the whole table, closed by computation.
+-- The proved cases of definition, Worked cases: one claim over the whole table, closed by computation.
 use mathlib.Core.Path.{_≡_, refl}
 use mathlib.Core.Bool.{true}
 use Rattle.vdp_state.specs.Cell.{perform}

@@ -1,4 +1,4 @@
--- The starred cases of document 01, Worked on the bench, as one table: what the definitions give, and what they should give.
+-- The cases of definition, Worked cases, that are proved, as one table: what is given, and what should be.
 use Prim.Native.Nat.{ℕ}
 use mathlib.Core.Bool.{Bool, true, false, _&&_}
 use mathlib.Core.List.{List, [], _∷_}
@@ -40,11 +40,11 @@ ended c = left (run c [] zeros mostUnits)
 abbrev pub accessed : ℕ → ℕ → State
 accessed firstHalf secondHalf = controls (0x8f02 ∷ firstHalf ∷ secondHalf ∷ []) start
 
--- "Zero VRAM, fill 1234h at 0, step 1, length 4"
+-- "VRAM of zeros, a fill with the word 1234h at 0, step 1, length 4"
 abbrev pub filled : Chip
 filled = ended (written 0x1234 (chip (controls (0x8f01 ∷ 0x9304 ∷ 0x9400 ∷ 0x9780 ∷ 0x8114 ∷ 0x4000 ∷ 0x0080 ∷ []) start) zeros))
 
--- "AA 00 00 00, copy 0 to 1, length 3, step 1"
+-- "VRAM AA 00 00 00 00, a copy from 0 to 1, step 1, length 3"
 abbrev pub copying : State
 copying = controls (0x8f01 ∷ 0x9303 ∷ 0x9400 ∷ 0x97c0 ∷ 0x8114 ∷ 0x0001 ∷ 0x00c0 ∷ []) start
 

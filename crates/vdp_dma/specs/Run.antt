@@ -1,4 +1,4 @@
--- A run: document 01, DMA ("A run takes a budget and reports the units made").
+-- A run: definition, DMA ("A run makes as many units as the smaller of its budget and the units remaining").
 use Prim.Native.Nat.{ℕ, _%_, min}
 use mathlib.Core.Bool.{not, _||_, _&&_}
 use mathlib.Core.List.{List, [], _∷_}
@@ -12,18 +12,19 @@ use Rattle.vdp_ports.specs.Refusal.{badState}
 use Rattle.vdp_dma.specs.Source.{allLent}
 use Rattle.vdp_dma.specs.Unit.{unit}
 
--- "the units made, the smaller of budget and remaining"
+-- "the smaller of its budget and the units remaining"
 abbrev pub unitsMade : State → ℕ → ℕ
 unitsMade s budget = min budget (s .control .dma .remaining)
 
--- 2: "VRAM not 65,536 bytes; work RAM not 65,536; cartridge over 4,194,304 bytes or odd"
+-- 2: "VRAM is not 65,536 bytes long"; "work RAM is not 65,536 bytes long; the cartridge is longer than 4,194,304 bytes
+-- or has an odd length"
 abbrev pub badMemory : List ℕ → List ℕ → List ℕ → Test
 badMemory vram cartridge ram =
     gives 2
     (not (eqb (length vram) 65536) || not (eqb (length ram) 65536) || not (leb (length cartridge) 4194304)
     || not (eqb (length cartridge % 2) 0))
 
--- 7: "a word this run would move lies in no lent memory"
+-- 7: "a word that the run is to move lies in no lent memory"; "It is asked in kind 2 only"
 abbrev pub notLent : State → List ℕ → ℕ → Test
 notLent s cartridge budget =
     gives 7 (eqb (s .control .dma .kind) 2 && not (allLent cartridge (s .control .dma .source) (unitsMade s budget)))

@@ -1,4 +1,4 @@
--- Where a transfer finds its words: document 01, DMA; notes s11.
+-- Where a transfer finds its words: definition, DMA; notes s11.
 use Prim.Native.Nat.{ℕ, zero, suc, _+_, _*_, _%_}
 use mathlib.Core.Bool.{Bool, true, cond, _&&_, _||_}
 use mathlib.Core.List.{List}
@@ -7,7 +7,8 @@ use lib.ListN.{length, take, drop}
 use Rattle.vdp_state.specs.Cell.{wordAt}
 use Rattle.vdp_ports.specs.declared.length.Words.{Words}
 
--- "Words at E00000h and up come from work RAM at source mod 65,536; below the cartridge's length from the cartridge."
+-- "A word at E00000h or above is the word of work RAM at source mod 65,536. A word below the cartridge's length is the
+-- word of the cartridge at the source."
 abbrev pub workRam : ℕ → Bool
 workRam source = leb 0xe00000 source
 
@@ -19,7 +20,7 @@ abbrev pub wordsNext : List ℕ → List ℕ → ℕ → Words → List ℕ
 wordsNext cartridge ram source n =
     cond (workRam source) (take (2 * n .0) (drop (source % 65536) ram)) (take (2 * n .0) (drop source cartridge))
 
--- "source + 2, FFFFFEh going to FF0000h"; a source has 24 bits
+-- "the source goes on by 2, and from FFFFFEh it goes to FF0000h"; a source has 24 bits
 abbrev pub nextSource : ℕ → ℕ
 nextSource source = cond (eqb source 0xfffffe) 0xff0000 ((source + 2) % 0x1000000)
 

@@ -1,4 +1,4 @@
--- One DMA unit of each kind, as the step that it decides: document 01, DMA; notes s11.
+-- One DMA unit of each kind, as the step that it decides: definition, DMA; notes s11.
 use Prim.Native.Nat.{ℕ, _+_, _-_, _*_, _%_}
 use mathlib.Core.Bool.{Bool, true, false, cond}
 use mathlib.Core.List.{List}
@@ -20,8 +20,8 @@ use Rattle.vdp_ports.specs.Data.{advanced}
 use Rattle.vdp_ports.specs.Length.{register, idle}
 use Rattle.vdp_dma.specs.Source.{wordFrom, nextSource}
 
--- the DMA state once n units are made: "Every unit lowers the units remaining by one. When the last unit is made, kind,
--- source and fill byte become 0"
+-- the DMA state once n units are made: each makes "the units remaining one less. After the last unit the kind, the
+-- source and the fill byte are 0."
 abbrev pub unitsDma : Dma → ℕ → ℕ → Dma
 unitsDma d n source =
     cond (leb (d .remaining) n) idle
@@ -30,8 +30,8 @@ unitsDma d n source =
 abbrev pub unitDma : Dma → ℕ → Dma
 unitDma d source = unitsDma d 1 source
 
--- the control part after a unit: the address moves by register 15, the source as the kind has it; "No unit changes a
--- register or pending."
+-- the control part after a unit: the address moves by register 15, the source as the kind has it; "A unit changes no
+-- register, not pending, not the code and no flag."
 abbrev pub unitControl : Control → ℕ → ℕ → Control
 unitControl c increment source = withDma (withPort c (advanced (c .port) increment)) (unitDma (c .dma) source)
 
@@ -45,7 +45,7 @@ byteStored m place b =
     VramWord (evenPlace place)
     (cond (eqb (place % 2) 0) (b * 256 + getD m (place + 1) 0) (getD m (place - 1) 0 * 256 + b))
 
--- "Transfer unit: one word moved as by a data write"
+-- "A transfer unit stores the word at the source as a data write would, with the same code and address."
 abbrev pub transferStep : State → ℕ → Step
 transferStep s w =
     record {
@@ -53,7 +53,7 @@ transferStep s w =
       store = written (access (s .control .port .code)) (s .control .port .address) w;
     }
 
--- "if CD3-CD0 is 0001"
+-- "if CD3-CD0 are 0001"
 abbrev pub writesVram : Access → Bool
 writesVram (Write Vram) = true
 writesVram (Write Cram) = false
@@ -65,7 +65,7 @@ writesVram Nothing = false
 abbrev pub inverted : ℕ → ℕ
 inverted place = cond (eqb (place % 2) 0) (place + 1) (place - 1)
 
--- "if CD3-CD0 is 0001, that byte goes to the address with bit 0 inverted"
+-- "A fill unit stores the fill byte at the address with bit 0 inverted, if CD3-CD0 are 0001."
 abbrev pub fillStep : Chip → Step
 fillStep c =
     let k = c .state .control in
@@ -74,7 +74,8 @@ fillStep c =
       store = cond (writesVram (access (k .port .code))) (byteStored (c .vram) (inverted (k .port .address)) (k .dma .fill)) NoStore;
     }
 
--- "Copy unit: byte at source to the address; source + 1 mod 65,536."
+-- "A copy unit stores the VRAM byte at the source at the address, whatever the code. Then the source goes on by 1, mod
+-- 65,536."
 abbrev pub copyStep : Chip → Step
 copyStep c =
     let k = c .state .control in

@@ -1,4 +1,4 @@
-// The run (document 01, DMA): as many units as the budget and the units remaining allow.
+// The run (definition, DMA): as many units as the budget and the units remaining allow.
 ghost use mathlib.Core.Path.{_≡_};
 ghost use mathlib.Core.Bool.{not, _&&_, _||_};
 ghost use lib.Dec.{eqb};

@@ -1,4 +1,4 @@
-// Where a transfer finds its words (document 01, DMA; notes s11).
+// Where a transfer finds its words (definition, DMA; notes s11).
 ghost use mathlib.Core.Path.{_≡_};
 ghost use Prim.Native.Nat.{_*_};
 ghost use lib.ListN.{take, drop};

@@ -1,4 +1,4 @@
-// One DMA unit of each kind (document 01, DMA; notes s11).
+// One DMA unit of each kind (definition, DMA; notes s11).
 ghost use mathlib.Core.Path.{_≡_};
 ghost use Prim.Native.Nat.{_+_, _%_};
 ghost use Rattle.vdp_state.specs.State.{chip};

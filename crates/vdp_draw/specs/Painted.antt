@@ -1,4 +1,4 @@
--- For the proofs: a list whose columns are stored one after the other, as a loop over columns leaves it.
+-- Serves proofs only: a list whose columns are stored one after the other, as a loop over columns leaves it.
 use Prim.Native.Nat.{ℕ, zero, suc, _+_}
 use mathlib.Core.Bool.{Bool, false, _||_}
 use mathlib.Core.List.{List}

@@ -1,4 +1,4 @@
--- Patterns: document 01, Drawing ("Pattern row r is 4 bytes at 32 x name + 4r, left pixel in the high half").
+-- Patterns: definition, Drawing ("Row r of the pattern with name n is the 4 bytes at 32 x n + 4 x r").
 use Prim.Native.Nat.{ℕ, _+_, _*_, _/_, _%_}
 use mathlib.Core.Bool.{cond}
 use mathlib.Core.List.{List}

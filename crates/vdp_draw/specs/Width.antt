@@ -1,4 +1,4 @@
--- The width of a line: document 01, Drawing ("Width 320 if register 12 bit 0 is set, else 256").
+-- The width of a line: definition, Drawing ("The width is 320 if register 12 bit 0 is set, else 256.").
 use Prim.Native.Nat.{ℕ}
 use mathlib.Core.Bool.{Bool, cond}
 

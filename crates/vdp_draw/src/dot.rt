@@ -1,4 +1,4 @@
-// Dots (document 01, Drawing): what a layer shows on a column, 64 x priority + colour index.
+// Dots (definition, Drawing): what a layer shows on a column, 64 x priority + colour index.
 ghost use mathlib.Core.Path.{_≡_};
 ghost use Prim.Native.Nat.{_<_};
 ghost use Rattle.vdp_draw.specs.Dot.{solid as isSolid, dotOf, turned as turnedPlace, blockName, blockDot};

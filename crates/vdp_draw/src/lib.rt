@@ -1,4 +1,4 @@
-// What planes and sprites draw with (document 01, Drawing): the pixels of patterns and the dots of cells.
+// What planes and sprites draw with (definition, Drawing): the pixels of patterns and the dots of cells.
 pub mod dot;
 pub mod pattern;
 pub mod width;

@@ -1,4 +1,4 @@
-// Patterns (document 01, Drawing): 32 bytes each, eight rows of eight pixels.
+// Patterns (definition, Drawing): 32 bytes each, eight rows of eight pixels.
 ghost use mathlib.Core.Path.{_≡_};
 ghost use Rattle.vdp_draw.specs.Pattern.{half as halfOf, patternPixel};
 use vdp_state::cell::byte_at;

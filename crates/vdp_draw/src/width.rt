@@ -1,4 +1,4 @@
-// The width of a line (document 01, Drawing).
+// The width of a line (definition, Drawing).
 ghost use mathlib.Core.Path.{_≡_};
 ghost use Rattle.vdp_draw.specs.Width.{widthOf};
 

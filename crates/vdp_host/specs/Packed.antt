@@ -1,4 +1,4 @@
--- A colour word's three parts as one number: document 01, Ports, last part.
+-- A colour word's three parts as one number: definition, Calls for a host program.
 use Prim.Native.Nat.{ℕ, _+_, _*_}
 use Rattle.vdp_ports.specs.declared.parts.Parts.{Parts}
 

@@ -1,4 +1,4 @@
--- The pixels of a pattern's row for a host program: document 01, Ports, last part, and Numbers a call may answer.
+-- The pixels of a pattern's row: definition, Calls for a host program and Numbers a call may answer.
 use Prim.Native.Nat.{ℕ}
 use mathlib.Core.Bool.{cond, not, _||_}
 use mathlib.Core.List.{List, [], _∷_}
@@ -8,11 +8,11 @@ use Rattle.vdp_state.specs.Answer.{Test, gives, first}
 use Rattle.vdp_ports.specs.Refusal.{badVram}
 use Rattle.vdp_draw.specs.Pattern.{rowPixels}
 
--- 2: "pixel buffer not 320 (pattern row: 8)"
+-- 2: "the row buffer is not 8 bytes long"
 abbrev pub badRow : List ℕ → Test
 badRow pixels = gives 2 (not (eqb (length pixels) 8))
 
--- 5: "pattern name above 2,047 or row above 7"
+-- 5: "the name is above 2,047 or the row above 7"
 abbrev pub noPattern : ℕ → ℕ → Test
 noPattern name row = gives 5 (ltb 2047 name || ltb 7 row)
 

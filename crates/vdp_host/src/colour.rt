@@ -1,4 +1,4 @@
-// A colour word's three parts as one number (document 01, Ports, last part).
+// A colour word's three parts as one number (definition, Calls for a host program).
 ghost use mathlib.Core.Path.{_≡_};
 ghost use Rattle.vdp_ports.specs.Parts.{colourParts};
 ghost use Rattle.vdp_host.specs.Packed.{packed};

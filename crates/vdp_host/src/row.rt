@@ -1,4 +1,4 @@
-// The eight unflipped pixels of a pattern's row (document 01, Ports, last part, and Drawing).
+// The eight unflipped pixels of a pattern's row (definition, Calls for a host program and Drawing).
 ghost use mathlib.Core.Path.{_≡_};
 ghost use lib.ListN.{length};
 ghost use Rattle.vdp_draw.specs.Pattern.{rowPixels};

@@ -1,4 +1,4 @@
--- What a call gives to a caller who lent the state: document 01, Ports, last part.
+-- What a call gives to a caller who lent the state: definition, Calls for a host program.
 use Rattle.vdp_state.specs.declared.answer.Answer.{Answer}
 use Rattle.vdp_state.specs.declared.state.State.{State}
 use Rattle.vdp_tape.specs.declared.recorder.TapeAnswer.{TapeAnswer}

@@ -1,4 +1,4 @@
-// What a call gives back beside the state that it was lent (document 01, Numbers a call may answer).
+// What a call gives back beside the state that it was lent (definition, Numbers a call may answer).
 
 // The number, and the word read, the units made or the visits, else 0.
 #[repr(C)]

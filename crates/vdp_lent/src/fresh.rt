@@ -1,4 +1,4 @@
-// The fresh state for a C program (document 01, The state).
+// The fresh state for a C program (definition, The state).
 ghost use mathlib.Core.Path.{_≡_};
 ghost use Rattle.vdp_state.specs.Fresh.{fresh as freshState};
 use vdp_state::fresh::fresh;

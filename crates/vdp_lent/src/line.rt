@@ -1,7 +1,7 @@
-// The line over a state that is lent (document 01, Drawing).
+// The line over a state that is lent (definition, Drawing).
 ghost use mathlib.Core.Path.{_≡_};
 ghost use Rattle.vdp_state.specs.State.{chip};
-ghost use Rattle.vdp_line.specs.Line.{lineDrawn, line as lineOf};
+ghost use Rattle.vdp_line.specs.Line.{lineOutcome, line as lineOf};
 ghost use Rattle.vdp_lent.specs.Answer.{withState};
 use crate::answer::LentAnswer;
 use vdp_line::line::line as draw;
@@ -15,7 +15,7 @@ pub extern "C" fn kuthbareen_line(
     line: u32,
     pixels: &mut [u8],
 ) -> LentAnswer
-    ensures { λ r. ⌜ lineDrawn (withState r (now (s .exit))) (now (pixels .exit))
+    ensures { λ r. ⌜ lineOutcome (withState r (now (s .exit))) (now (pixels .exit))
         ≡ lineOf (chip (now (s .entry)) (now (vram .entry))) line (now (pixels .entry)) ⌝ }
 {
     let answer = draw(*s, vram, line, pixels);

@@ -1,4 +1,4 @@
-// The port accesses and the new frame over a state that is lent (document 01, Ports).
+// The port accesses and the new frame over a state that is lent (definition, Ports).
 ghost use mathlib.Core.Path.{_≡_};
 ghost use Rattle.vdp_state.specs.Answer.{outcome};
 ghost use Rattle.vdp_state.specs.State.{chip};

@@ -1,4 +1,4 @@
-// The run over a state that is lent (document 01, DMA).
+// The run over a state that is lent (definition, DMA).
 ghost use mathlib.Core.Path.{_≡_};
 ghost use Rattle.vdp_state.specs.Answer.{outcome};
 ghost use Rattle.vdp_state.specs.State.{chip};

@@ -1,4 +1,4 @@
-// The recorded calls and step back over a state that is lent (document 01, The tape).
+// The recorded calls and step back over a state that is lent (definition, The tape).
 ghost use mathlib.Core.Path.{_≡_};
 ghost use mathlib.Core.List.{List};
 ghost use Prim.Native.Nat.{ℕ};

@@ -6,13 +6,13 @@ use mathlib.Core.List.{List}
 use Rattle.vdp_state.specs.Answer.{done}
 use Rattle.vdp_state.specs.State.{Chip, withControl}
 use Rattle.vdp_line.specs.Layout.{displayed, backdrop}
-use Rattle.vdp_line.specs.Line.{spritesOf, mixed, drawn, flagged, lineDrawn, lineMade}
+use Rattle.vdp_line.specs.Line.{spritesOf, mixed, drawn, flagged, lineOutcome, lineMade}
 
 module _ (c : Chip) (n : ℕ) (pixels : List ℕ) where
-  pub made-blank : displayed (c .state) ≡ false → lineDrawn (done 0 (c .state)) (drawn (c .state) (λ x. backdrop (c .state)) pixels) ≡ lineMade c n pixels
+  pub made-blank : displayed (c .state) ≡ false → lineOutcome (done 0 (c .state)) (drawn (c .state) (λ x. backdrop (c .state)) pixels) ≡ lineMade c n pixels
   made-blank e = simp e
 
   pub made-shown : displayed (c .state) ≡ true
       → let found = spritesOf c n in
-      lineDrawn (done (found .visits) (withControl (c .state) (flagged (c .state .control) (found .overflow) (found .collision)))) (drawn (c .state) (mixed c n (found .dots)) pixels) ≡ lineMade c n pixels
+      lineOutcome (done (found .visits) (withControl (c .state) (flagged (c .state .control) (found .overflow) (found .collision)))) (drawn (c .state) (mixed c n (found .dots)) pixels) ≡ lineMade c n pixels
   made-shown e = simp e

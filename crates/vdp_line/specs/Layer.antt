@@ -1,4 +1,4 @@
--- The dots of plane B, and of plane A or the window, on a column: document 01, Drawing.
+-- The dots of plane B, and of plane A or the window, on a column: definition, Drawing.
 use Prim.Native.Nat.{ℕ, _+_, _*_, _%_}
 use mathlib.Core.Bool.{cond}
 use Rattle.vdp_state.specs.Cell.{wordAt}
@@ -7,7 +7,8 @@ use Rattle.vdp_line.specs.declared.plane.Row.{Row}
 use Rattle.vdp_line.specs.Layout.{scrollPlace, vertical}
 use Rattle.vdp_line.specs.Plane.{planeA, planeB, window, rowOf, rowDot, inWindow}
 
--- h of plane 0 (A) or 1 (B): "Horizontal scroll entry, 4 bytes a line, A then B, 10 bits"
+-- h of plane 0 (A) or 1 (B): "an entry of 4 bytes for each line: the word of plane A, then the word of plane B. The low
+-- 10 bits of the word are the scroll h."
 abbrev pub horizontal : Chip → ℕ → ℕ → ℕ
 horizontal c line plane = wordAt (c .vram) (scrollPlace (c .state) line + 2 * plane) % 1024
 

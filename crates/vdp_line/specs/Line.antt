@@ -1,4 +1,4 @@
--- A line: document 01, Drawing and Numbers a call may answer.
+-- A line: definition, Drawing and Numbers a call may answer.
 use Prim.Native.Nat.{ℕ, _+_, _*_, _/_}
 use mathlib.Core.Bool.{Bool, true, false, cond, not, _&&_, _||_, Bool·beq}
 use mathlib.Core.List.{List, [], _∷_, _++_}
@@ -23,19 +23,20 @@ use Rattle.vdp_line.specs.Layout.{bit, wide, height, displayed, backdrop
 use Rattle.vdp_line.specs.Mix.{mix}
 use Rattle.vdp_line.specs.Plane.{windowColumns}
 
--- 2: "pixel buffer not 320"
+-- 2: "the pixel buffer is not 320 bytes long"
 abbrev pub badPixels : List ℕ → Test
 badPixels pixels = gives 2 (not (eqb (length pixels) 320))
 
--- 5: "line at or above the height"
+-- 5: "the line number is not below the height"
 abbrev pub noLine : State → ℕ → Test
 noLine s line = gives 5 (leb (height s) line)
 
 abbrev pub planeCells : State → ℕ
 planeCells s = cells (codeAcross s) * cells (codeDown s)
 
--- 4: "register 0 bit 0 or 3 set; register 1 bit 7 or 0 set or bit 2 clear; register 12 bits 7 and 0 differ or any of bits
--- 3-1 set; register 16 has size code 2 in either field or over 4,096 cells"
+-- 4: "register 0 bit 0 or bit 3 is set", "register 1 bit 7 or bit 0 is set, or its bit 2 is clear", "register 12 bits 7
+-- and 0 differ, or one of its bits 3-1 is set", "register 16 has the code 2 for the width or the height of the planes"
+-- or "a plane has more than 4,096 cells"
 abbrev pub notModelled : State → Test
 notModelled s =
     gives 4
@@ -43,8 +44,8 @@ notModelled s =
     || bit s 12 3 || bit s 12 2 || bit s 12 1 || eqb (codeAcross s) 2 || eqb (codeDown s) 2
     || ltb 4096 (planeCells s))
 
--- 9: "a table read in drawing would pass FFFFh": where the tables that this line reads end (of a plane any cell may be read,
--- of the window the rows to this line's)
+-- 9: "a table that the line reads ends past FFFFh": "planes A and B with all their cells, that of the window up to the
+-- row of this line, that of the sprites with 80 (64) entries, and this line's entry of the horizontal scroll table"
 abbrev pub tablePastEnd : State → ℕ → Test
 tablePastEnd s line =
     gives 9
@@ -69,11 +70,11 @@ spritesOf c line = spriteLine (c .vram) (baseSprites (c .state)) (wide (c .state
 abbrev pub mixed : Chip → ℕ → List ℕ → ℕ → ℕ
 mixed c line dots x = mix (backdrop (c .state)) (dotB c line x) (dotA c line x) (getD dots x 0)
 
--- the visible columns drawn: "(bytes beyond untouched)"
+-- the columns of the width drawn: "The bytes of the pixel buffer past the width stay as they are."
 abbrev pub drawn : State → (ℕ → ℕ) → List ℕ → List ℕ
 drawn s pixel pixels = tabulate pixel (widthOf (wide s)) ++ drop (widthOf (wide s)) pixels
 
--- "A line sets these flags and never clears them."
+-- "A line sets overflow or collision where it meets them and never clears them."
 abbrev pub flagged : Control → Bool → Bool → Control
 flagged k overflow collision =
     withFlags k (record { overflow = k .flags .overflow || overflow; collision = k .flags .collision || collision })
@@ -87,7 +88,7 @@ lineStep c n =
       store = Nothing;
     }
 
--- "The visits are reported"; a blanked line has "no sprites visited"
+-- "The result is the number of visits"; where the line is blanked "no sprite is visited"
 abbrev pub visits : Chip → ℕ → ℕ
 visits c n = cond (displayed (c .state)) (spritesOf c n .visits) 0
 
@@ -96,16 +97,16 @@ linePixels c n pixels =
     drawn (c .state) (λ x. cond (displayed (c .state)) (mixed c n (spritesOf c n .dots) x) (backdrop (c .state))) pixels
 
 -- what a line leaves: its answer and the pixel buffer, which a refused line leaves untouched
-pub record LineDrawn : Type 0 where
+pub record LineOutcome : Type 0 where
   pub answer : Answer
   pub pixels : List ℕ
 
-abbrev pub lineDrawn : Answer → List ℕ → LineDrawn
-lineDrawn a pixels = record { answer = a; pixels = pixels }
+abbrev pub lineOutcome : Answer → List ℕ → LineOutcome
+lineOutcome a pixels = record { answer = a; pixels = pixels }
 
-abbrev pub lineMade : Chip → ℕ → List ℕ → LineDrawn
-lineMade c n pixels = lineDrawn (done (visits c n) (after (c .state) (lineStep c n))) (linePixels c n pixels)
+abbrev pub lineMade : Chip → ℕ → List ℕ → LineOutcome
+lineMade c n pixels = lineOutcome (done (visits c n) (after (c .state) (lineStep c n))) (linePixels c n pixels)
 
-abbrev pub line : Chip → ℕ → List ℕ → LineDrawn
+abbrev pub line : Chip → ℕ → List ℕ → LineOutcome
 line c n pixels =
-    cond (eqb (lineNumber c n pixels) 0) (lineMade c n pixels) (lineDrawn (refused (lineNumber c n pixels) (c .state)) pixels)
+    cond (eqb (lineNumber c n pixels) 0) (lineMade c n pixels) (lineOutcome (refused (lineNumber c n pixels) (c .state)) pixels)

@@ -1,4 +1,4 @@
--- Mixing: document 01, Drawing ("Back to front: backdrop, low B, A, sprites, high B, A, sprites; pixel 0 is clear").
+-- Mixing: definition, Drawing ("A column shows the colour index of the solid dot that lies in front").
 use Prim.Native.Nat.{ℕ, _%_}
 use mathlib.Core.Bool.{Bool, cond, _&&_}
 use Rattle.vdp_draw.specs.Dot.{solid, high}
@@ -11,7 +11,8 @@ index dot = dot % 64
 abbrev pub inFront : ℕ → Bool
 inFront dot = solid dot && high dot
 
--- read from the front: the first that shows
+-- asked from the front: "From the back to the front: low plane B, low plane A or window, low sprites, high plane B,
+-- high plane A or window, high sprites."
 unfoldable pub mix : ℕ → ℕ → ℕ → ℕ → ℕ
 mix backdrop b a sprite =
     cond (inFront sprite) (index sprite)

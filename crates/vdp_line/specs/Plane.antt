@@ -1,4 +1,4 @@
--- Planes and the window: document 01, Drawing; notes s12 to s14.
+-- Planes and the window: definition, Drawing; notes s12 to s14.
 use Prim.Native.Nat.{ℕ, _+_, _-_, _*_, _/_, _%_}
 use mathlib.Core.Bool.{Bool, cond, not, _||_}
 use mathlib.Core.List.{List}
@@ -21,14 +21,14 @@ planeA s = plane (baseA s) (cells (codeAcross s)) (cells (codeDown s))
 abbrev pub planeB : State → Plane
 planeB s = plane (baseB s) (cells (codeAcross s)) (cells (codeDown s))
 
--- the window is a table of its own, unscrolled, "64 cells wide at 320, else 32"; its 32 rows hold every line
+-- the window is a table of its own, "64 cells wide at 320 and 32 at 256", unscrolled; its 32 rows hold every line
 abbrev pub windowColumns : State → ℕ
 windowColumns s = cond (wide s) 64 32
 
 abbrev pub window : State → Plane
 window s = plane (baseWindow s) (windowColumns s) 32
 
--- the row of cells that a line crosses, and the line within it: "(line + v) mod the plane's height, 8 pixels a cell"; and
+-- the row of cells that a line crosses, and the line within it: "row (line + v) mod its height", 8 pixels a cell; and
 -- what its columns are moved by: -h, as 1024 is a multiple of every plane's width
 abbrev pub rowOf : Plane → ℕ → ℕ → ℕ → Row
 rowOf p h v line =
@@ -40,11 +40,11 @@ rowOf p h v line =
       line = (line + v) % (8 * p .rows) % 8;
     }
 
--- the pixel of a row that column x shows: "(x - h) mod the plane's width"
+-- the pixel of a row that column x shows: "column (x - h) mod its width"
 abbrev pub across : Row → ℕ → ℕ
 across r x = (x + r .shift) % (8 * r .columns)
 
--- "cells lie row by row, a word each"
+-- "The cells of a table lie row by row, a word each"
 abbrev pub cellPlace : Row → ℕ → ℕ
 cellPlace r column = r .base + 2 * (r .row * r .columns + column)
 
@@ -55,8 +55,8 @@ rowDot vram r x = blockDot vram (wordAt vram (cellPlace r (across r x / 8))) 1 1
 abbrev pub side : Bool → Bool → Bool
 side other below = cond other (not below) below
 
--- "Window replaces A: line / 8 below register 18's low five bits (bit 7 set: not below), or x below 16 x register 17's low
--- five bits (bit 7: not below)."
+-- "The first: line / 8 is below register 18 mod 32, or with register 18 bit 7 set, is not below it. The second: x is
+-- below 16 x (register 17 mod 32), or with register 17 bit 7 set, is not below it."
 abbrev pub inWindow : State → ℕ → ℕ → Bool
 inWindow s line x =
     side (bit s 18 7) (ltb (line / 8) (register s 18 % 32)) || side (bit s 17 7) (ltb x (16 * (register s 17 % 32)))

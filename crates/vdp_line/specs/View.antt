@@ -1,5 +1,5 @@
--- For the proofs: what the code computes once for a line, and the rows that 16 columns of the screen show, in which neither
--- the vertical scroll nor the window's edge changes.
+-- Serves proofs only: what the code computes once for a line, and the rows that 16 columns of the screen show, in
+-- which neither the vertical scroll nor the window's edge changes.
 use Prim.Native.Nat.{ℕ, _+_, _*_, _/_, _%_}
 use mathlib.Core.Bool.{Bool, cond, _||_}
 use mathlib.Core.List.{List}

@@ -1,4 +1,4 @@
-// The layout of a line from the registers (document 01, Drawing; notes s12 to s14, s17).
+// The layout of a line from the registers (definition, Drawing; notes s12 to s14, s17).
 ghost use mathlib.Core.Path.{_≡_};
 ghost use Prim.Native.Nat.{_/_, _%_, _<_};
 ghost use lib.Dec.{eqb};

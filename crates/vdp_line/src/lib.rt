@@ -1,4 +1,4 @@
-// A line (document 01, Drawing): the layout from the registers, planes and window, mixing, and the call that draws.
+// A line (definition, Drawing): the layout from the registers, planes and window, mixing, and the call that draws.
 pub mod columns;
 pub mod layout;
 pub mod line;

@@ -1,9 +1,9 @@
-// The call that draws a line (document 01, Drawing).
+// The call that draws a line (definition, Drawing).
 ghost use mathlib.Core.Path.{_≡_};
 ghost use mathlib.Core.Bool.{true, false};
 ghost use lib.ListN.{length};
 ghost use Rattle.vdp_state.specs.State.{chip};
-ghost use Rattle.vdp_line.specs.Line.{flagged as flaggedControl, lineDrawn, lineMade, line as lineOf};
+ghost use Rattle.vdp_line.specs.Line.{flagged as flaggedControl, lineOutcome, lineMade, line as lineOf};
 ghost use Rattle.vdp_line.specs.Layout.{displayed as isDisplayed};
 use crate::columns::blank_columns;
 use crate::columns::draw_columns;
@@ -36,7 +36,7 @@ fn flagged(c: Control, overflow: bool, collision: bool) -> Control
 // Draws a displayed line and answers.
 fn shown_line(s: State, vram: &[u8], line: u8, pixels: &mut [u8]) -> Answer
     requires { ⌜ (isDisplayed s ≡ true) × (length (now pixels) ≡ 320) ⌝ }
-    ensures { λ r. ⌜ lineDrawn r (now (pixels .exit)) ≡ lineMade (chip s (now (vram .entry))) line (now (pixels .entry)) ⌝ }
+    ensures { λ r. ⌜ lineOutcome r (now (pixels .exit)) ≡ lineMade (chip s (now (vram .entry))) line (now (pixels .entry)) ⌝ }
 {
     let found = sprite_line(vram, base_sprites(s), wide(s), line);
     let dots = found.dots;
@@ -54,7 +54,7 @@ fn shown_line(s: State, vram: &[u8], line: u8, pixels: &mut [u8]) -> Answer
 // Blanks a line and answers.
 fn blank_line(s: State, vram: &[u8], line: u8, pixels: &mut [u8]) -> Answer
     requires { ⌜ (isDisplayed s ≡ false) × (length (now pixels) ≡ 320) ⌝ }
-    ensures { λ r. ⌜ lineDrawn r (now (pixels .exit)) ≡ lineMade (chip s (now (vram .entry))) line (now (pixels .entry)) ⌝ }
+    ensures { λ r. ⌜ lineOutcome r (now (pixels .exit)) ≡ lineMade (chip s (now (vram .entry))) line (now (pixels .entry)) ⌝ }
 {
     blank_columns(width_of(wide(s)), backdrop(s), pixels);
     Answer {
@@ -66,7 +66,7 @@ fn blank_line(s: State, vram: &[u8], line: u8, pixels: &mut [u8]) -> Answer
 
 // Draws a line: its colour indexes into the pixels, and the visits as the result.
 pub fn line(s: State, vram: &[u8], line: u32, pixels: &mut [u8]) -> Answer
-    ensures { λ r. ⌜ lineDrawn r (now (pixels .exit)) ≡ lineOf (chip s (now (vram .entry))) line (now (pixels .entry)) ⌝ }
+    ensures { λ r. ⌜ lineOutcome r (now (pixels .exit)) ≡ lineOf (chip s (now (vram .entry))) line (now (pixels .entry)) ⌝ }
 {
     let number = line_number(s, vram, line, pixels);
     if number != DONE {

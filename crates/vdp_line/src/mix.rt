@@ -1,4 +1,4 @@
-// Mixing (document 01, Drawing): what lies in front on a column.
+// Mixing (definition, Drawing): what lies in front on a column.
 ghost use mathlib.Core.Path.{_≡_};
 ghost use Rattle.vdp_line.specs.Mix.{inFront, mix as mixed};
 use vdp_draw::dot::solid;

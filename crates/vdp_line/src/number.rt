@@ -1,4 +1,4 @@
-// The number that a line answers (document 01, Numbers a call may answer; Drawing).
+// The number that a line answers (definition, Numbers a call may answer; Drawing).
 ghost use mathlib.Core.Path.{_≡_};
 ghost use Prim.Native.Nat.{_<_};
 ghost use Rattle.vdp_state.specs.State.{chip};

@@ -1,4 +1,4 @@
-// Planes and the window (document 01, Drawing; notes s12 to s14).
+// Planes and the window (definition, Drawing; notes s12 to s14).
 ghost use mathlib.Core.Path.{_≡_};
 ghost use Prim.Native.Nat.{_<_, _≤_};
 ghost use Rattle.vdp_line.specs.Plane.{planeA, planeB, windowColumns, window as windowOf, rowOf, rowDot};

@@ -24,8 +24,8 @@ pub(crate) struct Scrolled {
     pub h: u16,
 }
 
-// The planes and the window; whether the vertical scroll goes by 16 columns; whether the window has the whole line, else
-// whether it lies right of its edge, which is counted in 16 columns.
+// The planes and the window; whether the vertical scroll goes by 16 columns; whether the window has the whole line,
+// else whether it lies right of its edge, which is counted in 16 columns.
 pub(crate) struct View {
     pub a: Scrolled,
     pub b: Scrolled,

@@ -1,4 +1,4 @@
--- Which memory a data access touches: document 01, Ports ("Data write, by CD3-CD0 (CD4 ignored)"); notes s7.
+-- Which memory a data access touches: definition, Ports ("CD3-CD0 decide what a data access does"); notes s7.
 use Prim.Native.Nat.{ℕ, _+_, _-_, _*_, _/_, _%_}
 use mathlib.Core.Bool.{cond}
 use lib.Dec.{eqb, ltb}
@@ -33,8 +33,9 @@ wordNumber address = address / 2 % 64
 abbrev pub swapped : ℕ → ℕ
 swapped w = w % 256 * 256 + w / 256
 
--- "VRAM word at the address with bit 0 cleared, upper byte first, bytes swapped if bit 0 was set; colour
--- (address / 2) mod 64, keeping bits of 0EEEh; scroll word (address / 2) mod 64 if below 40, keeping 10 bits"
+-- "the word goes to the address with bit 0 cleared, upper byte first. At an odd address its two bytes are exchanged
+-- before."; "colour word (address / 2) mod 64 takes the bits of 0EEEh of the word"; "scroll word (address / 2) mod 64
+-- takes the low 10 bits of the word, if that number is below 40"
 abbrev pub writtenTo : Memory → ℕ → ℕ → Store
 writtenTo Vram address w = VramWord (evenPlace address) (cond (eqb (address % 2) 0) w (swapped w))
 writtenTo Cram address w = Colour (wordNumber address) (colourWord w)
@@ -45,7 +46,8 @@ written (Write memory) address w = writtenTo memory address w
 written (Read memory) address w = NoStore
 written Nothing address w = NoStore
 
--- "Data read: likewise (bit 0 ignored; absent scroll words and other codes read 0)"
+-- "the word at the address with bit 0 cleared. Its bytes are never exchanged."; "A scroll word that is not there reads
+-- as 0."
 abbrev pub readFrom : Memory → Chip → ℕ → ℕ
 readFrom Vram c address = wordAt (c .vram) (evenPlace address)
 readFrom Cram c address = getD (c .state .cram) (wordNumber address) 0

@@ -1,4 +1,4 @@
--- The control port: document 01, Ports and DMA; notes s7 and s11.
+-- The control port: definition, Ports and DMA; notes s7 and s11.
 use Prim.Native.Nat.{ℕ, _+_, _*_, _/_, _%_}
 use mathlib.Core.Bool.{Bool, true, false, cond, _&&_}
 use mathlib.Core.List.{List, [], _∷_}
@@ -18,7 +18,7 @@ use Rattle.vdp_ports.specs.Refusal.{badState, busy}
 abbrev pub port : ℕ → ℕ → Bool → Port
 port address code pending = record { address = address; code = code; pending = pending }
 
--- "A byte write of b is the word 257 x b."
+-- "A byte b that is written to a port counts as the word 257 x b"
 abbrev pub byteWord : ℕ → ℕ
 byteWord b = 257 * b
 
@@ -26,8 +26,9 @@ byteWord b = 257 * b
 abbrev pub fillDropped : Dma → Dma
 fillDropped d = cond (eqb (d .kind) 1) idle d
 
--- "a control word with bits 15-14 = 10 writes register (word / 256) mod 32 with the low byte; 24 to 31 change
--- nothing. A write to 0 to 23 also clears the code and a waiting fill; the address stays."
+-- "Its register is (word / 256) mod 32", "and its byte is the low byte of the word. A write to registers 24 to 31
+-- changes nothing. A write to registers 0 to 23 stores the byte, makes the code 0 and drops a waiting fill; the address
+-- stays."
 abbrev pub registerWrite : Control → ℕ → Step
 registerWrite c w =
     cond (ltb (w / 256 % 32) 24)
@@ -37,7 +38,8 @@ registerWrite c w =
     })
     (record { control = c; store = Nothing })
 
--- "bits 15-14 give CD1-CD0, bits 13-0 give A13-A0, at once; a waiting fill is dropped and pending set"
+-- "Its bits 15-14 become CD1-CD0 and its bits 13-0 become A13-A0, at once; CD5-CD2 and A15-A14 stay. It drops a waiting
+-- fill and sets pending."
 abbrev pub firstHalf : Control → ℕ → Step
 firstHalf c w =
     record {
@@ -48,19 +50,21 @@ firstHalf c w =
       store = Nothing;
     }
 
--- the DMA that starts: "Register 23 bit 7 clear: transfer, source = 2 x (23's low seven bits : 22 : 21). Bits 10: fill
--- waits for a data write. Bits 11: copy from byte 22:21."
+-- the DMA that starts: "Register 23 bit 7 clear: a transfer, kind 2. Its source is 2 x (65,536 x register 23 +
+-- registers 22:21)."; "Register 23 bits 7-6 = 10: a fill that waits for a data write, kind 1."; "Register 23 bits 7-6 =
+-- 11: a copy, kind 4. Its source is registers 22:21."
 abbrev pub dmaStarted : State → Dma
 dmaStarted s =
     cond (ltb (register s 23) 128)
     (transfer (words (unitsOf s)) (2 * (register s 23 * 65536 + register s 22 * 256 + register s 21)))
     (cond (ltb (register s 23) 192) fillWaiting (copy (bytes (unitsOf s)) (register s 22 * 256 + register s 21)))
 
--- "A second half with CD5 set, while register 1 bit 4 is set, starts DMA; else no DMA state changes."
+-- "The second half of a command starts DMA if its bit 7 (CD5) and register 1 bit 4 are both set. Else the DMA state
+-- stays"
 abbrev pub dmaAfter : State → ℕ → Dma
 dmaAfter s w = cond (eqb (w / 128 % 2) 1 && eqb (register s 1 / 16 % 2) 1) (dmaStarted s) (s .control .dma)
 
--- "bits 7-4 give CD5-CD2, bits 1-0 give A15-A14; pending clears"
+-- "Its bits 7-4 become CD5-CD2 and its bits 1-0 become A15-A14; CD1-CD0 and A13-A0 stay. It clears pending"
 abbrev pub secondHalf : State → ℕ → Step
 secondHalf s w =
     record {

@@ -1,4 +1,4 @@
--- The data port: document 01, Ports; notes s7 to s10.
+-- The data port: definition, Ports; notes s7 to s10.
 use Prim.Native.Nat.{ℕ, _+_, _/_, _%_}
 use mathlib.Core.Bool.{false, cond}
 use mathlib.Core.List.{List, [], _∷_}
@@ -19,11 +19,11 @@ use Rattle.vdp_ports.specs.Refusal.{badState, badVram, busy}
 abbrev pub advanced : Port → ℕ → Port
 advanced p increment = record { address = (p .address + increment) % 65536; code = p .code; pending = p .pending }
 
--- "Data accesses and status reads clear pending."
+-- a data access "clears pending, whatever its code", and "A status read clears pending"
 abbrev pub settled : Port → Port
 settled p = record { address = p .address; code = p .code; pending = false }
 
--- "the waiting data write is done as usual, then kind 3 begins with the word's upper byte"
+-- in kind 1, after the write: "Then kind 3 begins: the fill byte is the upper byte of the word"
 abbrev pub fillBegun : State → ℕ → Dma
 fillBegun s w = cond (eqb (s .control .dma .kind) 1) (fill (bytes (unitsOf s)) (w / 256)) (s .control .dma)
 

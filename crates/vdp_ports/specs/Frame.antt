@@ -1,4 +1,4 @@
--- A new frame: document 01, Ports ("A new-frame call clears overflow and collision").
+-- A new frame: definition, Ports ("A new frame clears overflow and collision and changes nothing else.").
 use mathlib.Core.Bool.{false}
 use mathlib.Core.List.{List, [], _∷_}
 use Rattle.vdp_state.specs.declared.answer.Answer.{Answer}

@@ -1,4 +1,4 @@
--- DMA lengths: document 01, DMA; notes s11. A transfer counts words, a fill or a copy counts bytes.
+-- DMA lengths: definition, DMA; notes s11. A transfer counts words, a fill or a copy counts bytes.
 use Prim.Native.Nat.{ℕ, _+_, _*_}
 use mathlib.Core.Bool.{cond}
 use lib.Dec.{eqb}
@@ -12,14 +12,14 @@ use Rattle.vdp_ports.specs.declared.length.Words.{Words}
 abbrev pub register : State → ℕ → ℕ
 register s i = getD (s .registers) i 0
 
--- "Length is registers 20:19, zero meaning 65,535"
+-- "The length is registers 20:19, and 65,535 if they are 0."
 abbrev pub units : ℕ → ℕ
 units n = cond (eqb n 0) mostUnits n
 
 abbrev pub unitsOf : State → ℕ
 unitsOf s = units (register s 20 * 256 + register s 19)
 
--- "Lengths count words for a transfer and bytes for a fill or copy"
+-- "It counts words in a transfer and bytes in a fill or a copy."
 abbrev pub words : ℕ → Words
 words n = record { 0 = n }
 

@@ -1,4 +1,4 @@
--- The conditions under which a port access is refused: document 01, Numbers a call may answer.
+-- The conditions under which a port access is refused: definition, Numbers a call may answer.
 use Prim.Native.Nat.{ℕ}
 use mathlib.Core.Bool.{Bool, _||_, not}
 use mathlib.Core.List.{List}
@@ -12,7 +12,7 @@ use Rattle.vdp_state.specs.Good.{good}
 abbrev pub badState : State → Test
 badState s = gives 1 (not (good s))
 
--- 2: "VRAM not 65,536 bytes"
+-- 2: "VRAM is not 65,536 bytes long"
 abbrev pub badVram : List ℕ → Test
 badVram m = gives 2 (not (eqb (length m) 65536))
 
@@ -20,7 +20,7 @@ badVram m = gives 2 (not (eqb (length m) 65536))
 abbrev pub filling : State → Bool
 filling s = eqb (s .control .dma .kind) 3 || eqb (s .control .dma .kind) 4
 
--- 3: "kind 2 at any port access; kind 3 or 4 at any but a status read"
+-- 3: "a port access in kind 2, or one other than a status read in kind 3 or 4"
 abbrev pub busyAtStatus : State → Test
 busyAtStatus s = gives 3 (eqb (s .control .dma .kind) 2)
 

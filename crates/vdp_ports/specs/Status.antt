@@ -1,4 +1,4 @@
--- The status word: document 01, Ports.
+-- The status word: definition, Ports.
 use Prim.Native.Nat.{ℕ, _+_}
 use mathlib.Core.Bool.{Bool, cond}
 use mathlib.Core.List.{List, [], _∷_}
@@ -15,7 +15,7 @@ use Rattle.vdp_ports.specs.Refusal.{badState, busyAtStatus, filling}
 abbrev pub flag : Bool → ℕ → ℕ
 flag b n = cond b n 0
 
--- "3600h, plus 40h overflow, 20h collision, 2 in kinds 3 and 4, 1 if PAL"
+-- "3600h, plus 40h if overflow is set, 20h if collision is set, 2 in kinds 3 and 4, and 1 if PAL is set"
 unfoldable pub statusWord : State → ℕ
 statusWord s =
     0x3600 + flag (s .control .flags .overflow) 0x40 + flag (s .control .flags .collision) 0x20 + flag (filling s) 2

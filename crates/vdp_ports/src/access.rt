@@ -1,4 +1,4 @@
-// Which memory a data access touches, by the code number (document 01, Ports; notes s7).
+// Which memory a data access touches, by the code number (definition, Ports; notes s7).
 ghost use mathlib.Core.Path.{_≡_};
 ghost use Rattle.vdp_state.specs.State.{chip};
 ghost use Rattle.vdp_ports.specs.Access.{access as accessBy, swapped as swappedWord, writtenTo, written as writtenBy, readFrom, readWord};

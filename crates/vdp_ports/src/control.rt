@@ -1,4 +1,4 @@
-// The control port (document 01, Ports and DMA; notes s7 and s11): what a control word does.
+// The control port (definition, Ports and DMA; notes s7 and s11): what a control word does.
 ghost use mathlib.Core.Path.{_≡_};
 ghost use Rattle.vdp_state.specs.Answer.{first};
 ghost use Prim.Native.Nat.{_+_, _*_};

@@ -1,4 +1,4 @@
-// The data port (document 01, Ports; notes s7 to s10): what a data write stores and a data read gives.
+// The data port (definition, Ports; notes s7 to s10): what a data write stores and a data read gives.
 ghost use mathlib.Core.Path.{_≡_};
 ghost use Rattle.vdp_state.specs.State.{chip};
 ghost use Rattle.vdp_state.specs.Answer.{first, outcome};

@@ -1,4 +1,4 @@
-// A new frame (document 01, Ports).
+// A new frame (definition, Ports).
 ghost use mathlib.Core.Path.{_≡_};
 ghost use Rattle.vdp_state.specs.Answer.{first};
 ghost use Rattle.vdp_ports.specs.Frame.{frameStep, frameTests, newFrame};

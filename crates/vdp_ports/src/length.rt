@@ -1,4 +1,4 @@
-// DMA lengths (document 01, DMA; notes s11): words for a transfer, bytes for a fill or copy, and the DMA states that
+// DMA lengths (definition, DMA; notes s11): words for a transfer, bytes for a fill or copy, and the DMA states that
 // begin with them.
 ghost use mathlib.Core.Path.{_≡_};
 ghost use Prim.Native.Nat.{_+_, _*_};

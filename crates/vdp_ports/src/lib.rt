@@ -1,4 +1,4 @@
-// The ports (document 01, Ports): what a control write, data write, data read, status read and new frame decide, and the
+// The ports (definition, Ports): what a control write, data write, data read, status read and new frame decide, and the
 // calls that carry it out; and the parts of a colour word.
 pub mod access;
 pub mod control;

@@ -1,4 +1,4 @@
-// A colour word's three parts (document 01, Ports, last part; notes s9 and s17).
+// A colour word's three parts (definition, Calls for a host program; notes s9 and s17).
 ghost use mathlib.Core.Path.{_≡_};
 ghost use Rattle.vdp_ports.specs.Parts.{shown as shownPart, colourParts};
 

@@ -1,4 +1,4 @@
-// The conditions under which a port access is refused (document 01, Numbers a call may answer).
+// The conditions under which a port access is refused (definition, Numbers a call may answer).
 ghost use mathlib.Core.Path.{_≡_};
 ghost use Rattle.vdp_ports.specs.Refusal.{filling as isFilling, busy as busyTest, busyAtStatus};
 use vdp_state::state::State;

@@ -1,4 +1,4 @@
-// The status word (document 01, Ports).
+// The status word (definition, Ports).
 ghost use mathlib.Core.Path.{_≡_};
 ghost use Rattle.vdp_state.specs.Answer.{first};
 ghost use Rattle.vdp_ports.specs.Status.{flag as flagged, statusWord, statusStep, statusTests, statusRead};

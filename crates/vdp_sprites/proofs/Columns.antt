@@ -1,4 +1,5 @@
--- Sprites put one behind the other on clear columns give each column its earliest solid dot, and meet where two are solid.
+-- Sprites put one behind the other on clear columns give each column its earliest solid dot, and meet where two are
+-- solid.
 use Prim.Native.Nat.{ℕ, zero, suc, _+_, _-_, _<_, _≤_}
 use mathlib.Core.Path.{_≡_, refl, sym, ap, ap₂, _∙_}
 use mathlib.Core.Bool.{Bool, true, false, cond, _&&_, _||_}

@@ -1,4 +1,4 @@
--- For the proofs: sprites put one after the other behind those that stand on the columns already.
+-- Serves proofs only: sprites put one after the other behind those that stand on the columns already.
 use Prim.Native.Nat.{ℕ}
 use mathlib.Core.Bool.{Bool, false, cond, _&&_, _||_}
 use mathlib.Core.List.{List, [], _∷_}

@@ -1,4 +1,4 @@
--- The sprites on a column of the screen: document 01, Drawing.
+-- The sprites on a column of the screen: definition, Drawing.
 use Prim.Native.Nat.{ℕ, _+_, _-_}
 use mathlib.Core.Bool.{Bool, cond, _&&_}
 use mathlib.Core.List.{List, [], _∷_}
@@ -12,13 +12,13 @@ use Rattle.vdp_sprites.specs.Shown.{Shown}
 abbrev pub dotInside : List ℕ → ℕ → Sprite → ℕ → ℕ
 dotInside vram line s column = blockDot vram (s .cell) (s .columns) (s .rows) (line + 128 - s .y) column
 
--- the dot that a sprite shows on column x of the screen, clear past the columns that show: "Y and X less 128"
+-- the dot that a sprite shows on column x of the screen, clear past the columns that show; its left is "column X - 128"
 abbrev pub shownDot : List ℕ → ℕ → Shown → ℕ → ℕ
 shownDot vram line s x =
     cond (leb (s .sprite .x) (x + 128) && ltb (x + 128) (s .sprite .x + s .columns))
     (dotInside vram line (s .sprite) (x + 128 - s .sprite .x)) 0
 
--- "The earliest solid sprite pixel takes its column, its priority not asked."
+-- "the solid dot of the first sprite, in the order of the walk, that shows one there; its priority is not asked"
 abbrev pub spriteDot : List ℕ → ℕ → List Shown → ℕ → ℕ
 spriteDot vram line [] x = 0
 spriteDot vram line (s ∷ ss) x = cond (solid (shownDot vram line s x)) (shownDot vram line s x) (spriteDot vram line ss x)
@@ -28,6 +28,6 @@ abbrev pub solidCount : List ℕ → ℕ → List Shown → ℕ → ℕ
 solidCount vram line [] x = 0
 solidCount vram line (s ∷ ss) x = cond (solid (shownDot vram line s x)) 1 0 + solidCount vram line ss x
 
--- "Collision: two shown solid pixels on one visible column."
+-- "There is a collision if two sprites show a solid pixel on the same column of the line's width."
 abbrev pub collides : List ℕ → ℕ → ℕ → List Shown → Bool
 collides vram line width ss = anyBelow (λ x. leb 2 (solidCount vram line ss x)) width

@@ -1,4 +1,4 @@
--- For the proofs: the walk that the code's struct holds, with the sprites kept as a list.
+-- Serves proofs only: the walk that the code's struct holds, with the sprites kept as a list.
 use lib.ListN.{take}
 use Rattle.vdp_sprites.specs.declared.walk.KeptSprites.{KeptSprites}
 use Rattle.vdp_sprites.specs.Walk.{Walk, walkOf}

@@ -1,4 +1,4 @@
--- What each kept sprite may show: document 01, Drawing.
+-- What each kept sprite may show: definition, Drawing.
 use Prim.Native.Nat.{ℕ, _-_, _*_, min}
 use mathlib.Core.Bool.{Bool, cond, _||_}
 use mathlib.Core.List.{List, [], _∷_}
@@ -13,12 +13,12 @@ pub record Shown : Type 0 where
 abbrev pub shown : Sprite → ℕ → Shown
 shown s columns = record { sprite = s; columns = columns }
 
--- "the last shows its leftmost remaining columns"; a masked sprite shows none
+-- "A sprite shows as many of its columns as there are pixels left for it"; a masked sprite shows none
 abbrev pub columnsShown : ℕ → Bool → Sprite → ℕ
 columnsShown left masked s = cond masked 0 (min left (8 * s .columns))
 
--- "Kept sprites use their width from 320 (256) pixels in order, off-screen and masked ones too", of which so many are
--- left; "From an X of 0 on, nothing later on the line shows."
+-- with so many pixels left: "The kept sprites use them up in their order, each as many as its width, also where it is
+-- off the screen or masked."; "A kept sprite whose X is 0 masks those kept after it"
 abbrev pub shownFrom : ℕ → Bool → List Sprite → List Shown
 shownFrom left masked [] = []
 shownFrom left masked (s ∷ ss) =

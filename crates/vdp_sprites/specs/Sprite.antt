@@ -1,4 +1,4 @@
--- A sprite of the table: document 01, Drawing ("Sprites, 8 bytes each"); notes s15.
+-- A sprite of the table: definition, Drawing ("Sprite i is the 8 bytes at base + 8 x i"); notes s15.
 use Prim.Native.Nat.{ℕ, _+_, _*_, _/_, _%_}
 use mathlib.Core.Bool.{Bool, _&&_}
 use mathlib.Core.List.{List}
@@ -7,8 +7,9 @@ use lib.ListN.{getD}
 use Rattle.vdp_state.specs.Cell.{wordAt}
 use Rattle.vdp_sprites.specs.declared.sprite.Sprite.{Sprite}
 
--- "Y word (9 bits), size byte (bits 3-2 width, 1-0 height, cells less one), link byte (7 bits), cell word, X word (9
--- bits)", of the sprite whose first byte lies at a place
+-- "Y, the low 9 bits of the word"; "bits 3-2 are the width in cells less one, bits 1-0 the height in cells less one";
+-- "the link, the low 7 bits"; "the cell word"; "X, the low 9 bits of the word"; of the sprite whose first byte lies at
+-- a place
 abbrev pub spriteFrom : List ℕ → ℕ → Sprite
 spriteFrom vram place =
     record {
@@ -24,6 +25,6 @@ spriteFrom vram place =
 abbrev pub spriteAt : List ℕ → ℕ → ℕ → Sprite
 spriteAt vram base i = spriteFrom vram (base + 8 * i)
 
--- a line of the screen crosses the sprite: "Y and X less 128"
+-- a line of the screen crosses the sprite, which begins on "line Y - 128"
 abbrev pub onLine : Sprite → ℕ → Bool
 onLine s line = leb (s .y) (line + 128) && ltb (line + 128) (s .y + 8 * s .rows)

@@ -1,4 +1,4 @@
--- All that the sprites give to a line: document 01, Drawing.
+-- All that the sprites give to a line: definition, Drawing.
 use Prim.Native.Nat.{ℕ, _-_}
 use mathlib.Core.Bool.{Bool, false}
 use mathlib.Core.List.{List, map, _++_}
@@ -15,7 +15,7 @@ use Rattle.vdp_sprites.specs.Walk.{Walk, walk}
 abbrev pub shownOf : List ℕ → ℕ → Bool → Walk → List Shown
 shownOf vram base wide w = shownFrom (widthOf wide) false (map (spriteAt vram base) (w .kept))
 
--- the dots of the 320 columns, clear past the width; "The visits are reported", the overflow and the collision
+-- the dots of the 320 columns, clear past the width; the visits, the overflow and the collision
 unfoldable pub spriteLine : List ℕ → ℕ → Bool → ℕ → SpriteLine
 spriteLine vram base wide line =
     let w = walk vram base wide line in

@@ -1,4 +1,4 @@
--- The walk over the sprites of a line: document 01, Drawing; notes s15.
+-- The walk over the sprites of a line: definition, Drawing; notes s15.
 use Prim.Native.Nat.{ℕ, zero, suc, _+_, _-_}
 use mathlib.Core.Bool.{Bool, true, false, cond, _||_}
 use mathlib.Core.List.{List, [], _∷_}
@@ -6,7 +6,7 @@ use lib.Dec.{eqb, leb}
 use Rattle.vdp_sprites.specs.declared.sprite.Sprite.{Sprite}
 use Rattle.vdp_sprites.specs.Sprite.{spriteAt, onLine}
 
--- "ends after 80 visits (64 at 256)", and a "21st (17th) sprite on the line" is one too many
+-- "The walk ends after 80 (64) visits.", and a further sprite on the line is too many if "20 (16) have been kept"
 abbrev pub mostVisits : Bool → ℕ
 mostVisits wide = cond wide 80 64
 
@@ -29,12 +29,12 @@ visit w = walkOf (w .kept) (w .visits + 1) (w .overflow)
 abbrev pub keep : ℕ → Walk → Walk
 keep i w = walkOf (i ∷ w .kept) (w .visits) (w .overflow)
 
--- "ends [..] at link 0, or a link at or above that number"
+-- "It ends at a link of 0, and at a link that is not below 80 (64)."
 abbrev pub onward : Bool → Sprite → Walk → Walk
 onward wide s w = cond (eqb (s .link) 0 || leb (mostVisits wide) (s .link)) (walkOf [] 0 false) w
 
--- from sprite i on, with so many visits left and room on the line for so many more: "It stops on meeting a 21st (17th)
--- sprite on the line: overflow", and that visit is counted
+-- from sprite i on, with so many visits left and room on the line for so many more: "If the sprite is on the line and
+-- 20 (16) have been kept, the walk ends here with overflow.", and that visit is counted
 abbrev pub walkFrom : List ℕ → ℕ → Bool → ℕ → ℕ → ℕ → ℕ → Walk
 walkFrom vram base wide line zero room i = walkOf [] 0 false
 walkFrom vram base wide line (suc left) room i =
@@ -44,6 +44,6 @@ walkFrom vram base wide line (suc left) room i =
     (cond (eqb room 0) (walkOf [] 0 true) (keep i (onward wide s (walkFrom vram base wide line left (room - 1) (s .link)))))
     (onward wide s (walkFrom vram base wide line left room (s .link))))
 
--- "The walk starts at 0"
+-- "The walk begins at sprite 0."
 abbrev pub walk : List ℕ → ℕ → Bool → ℕ → Walk
 walk vram base wide line = walkFrom vram base wide line (mostVisits wide) (mostOnLine wide) 0

@@ -1,4 +1,4 @@
-// The sprites of a line (document 01, Drawing): the walk over the table, what each kept sprite may show, and the dots
+// The sprites of a line (definition, Drawing): the walk over the table, what each kept sprite may show, and the dots
 // of the columns.
 pub mod paint;
 pub mod sprite;

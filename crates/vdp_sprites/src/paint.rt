@@ -1,4 +1,4 @@
-// What each kept sprite shows, and its dots on the columns of the screen (document 01, Drawing).
+// What each kept sprite shows, and its dots on the columns of the screen (definition, Drawing).
 ghost use mathlib.Core.Path.{_≡_};
 ghost use Prim.Native.Nat.{_+_, _-_, _*_, _≤_, min};
 ghost use mathlib.Core.Bool.{false};

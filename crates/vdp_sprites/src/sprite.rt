@@ -1,4 +1,4 @@
-// A sprite of the table (document 01, Drawing; notes s15).
+// A sprite of the table (definition, Drawing; notes s15).
 ghost use mathlib.Core.Path.{_≡_};
 ghost use Prim.Native.Nat.{_<_};
 ghost use Rattle.vdp_sprites.specs.Sprite.{spriteFrom, spriteAt, onLine};

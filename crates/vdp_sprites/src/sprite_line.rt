@@ -1,4 +1,4 @@
-// All that the sprites give to a line (document 01, Drawing).
+// All that the sprites give to a line (definition, Drawing).
 ghost use mathlib.Core.Path.{_≡_};
 ghost use Rattle.vdp_sprites.specs.SpriteLine.{spriteLine};
 use crate::paint::paint_kept;

@@ -1,4 +1,4 @@
-// The walk over the sprites of a line (document 01, Drawing; notes s15).
+// The walk over the sprites of a line (definition, Drawing; notes s15).
 ghost use mathlib.Core.Path.{_≡_};
 ghost use mathlib.Core.Bool.{_||_};
 ghost use Prim.Native.Nat.{_≤_};

@@ -70,7 +70,7 @@ transfer-source source even bits = simp (eq-eqb (source % 2) 0 even, lt-ltb sour
 pub copy-source : (source : ℕ) → source < 2 ^ 16 → goodSource 4 source ≡ true
 copy-source source bits = simp (lt-ltb source (2 ^ 16) bits) (or-true (eqb source 0 || false))
 
--- ---- units: "zero exactly for kinds 0 and 1"
+-- ---- units: "0 in kinds 0 and 1, and at least 1 in kinds 2, 3 and 4"
 module _ (d : Dma) (f : DmaFacts d) where
   pub none-remaining : d .kind ≤ 1 → d .remaining ≡ 0
   none-remaining low = eqb-true (d .remaining) 0 (equal-true _ (simp (le-leb (d .kind) 1 low) at (f .zero-exactly)))

@@ -1,4 +1,4 @@
--- The numbers a call may answer, their order, and what a refused call answers: document 01, Numbers a call may answer.
+-- The numbers a call may answer, their order, and what a refused call answers: definition, Numbers a call may answer.
 use Prim.Native.Nat.{ℕ}
 use mathlib.Core.Bool.{Bool, false, cond, _&&_, _||_}
 use mathlib.Core.List.{List, [], _∷_}
@@ -9,7 +9,7 @@ use Rattle.vdp_state.specs.declared.answer.Answer.{Answer}
 use Rattle.vdp_state.specs.Cell.{after, perform}
 use Rattle.vdp_state.specs.State.{Chip}
 
--- "Order: 1, 2, 3, 10, 8, 5, 4, 9, 7, 6"
+-- "the first of 1, 2, 3, 10, 8, 5, 4, 9, 7, 6 whose condition holds"
 abbrev pub order : List ℕ
 order = 1 ∷ 2 ∷ 3 ∷ 10 ∷ 8 ∷ 5 ∷ 4 ∷ 9 ∷ 7 ∷ 6 ∷ []
 
@@ -34,7 +34,7 @@ firstOf (n ∷ ns) ts = cond (holdsAt n ts) n (firstOf ns ts)
 abbrev pub first : List Test → ℕ
 first ts = firstOf order ts
 
--- "A refused call yields its number, the state [..] as they came, zero for every other result"
+-- "A refused call gives its number, the state [..] as it was given them, and 0 as its result."
 abbrev pub refused : ℕ → State → Answer
 refused n s = record { number = n; result = 0; state = s }
 

@@ -1,4 +1,4 @@
--- Cells: what a step does to the chip, the step that undoes it, and steps one after the other (document 01, The tape, DMA).
+-- Cells: what a step does to the chip, the step that undoes it, and steps one after the other (definition, The tape).
 use Prim.Native.Nat.{ℕ, zero, suc, _+_, _*_, _/_, _%_}
 use mathlib.Core.List.{List}
 use lib.ListN.{getD, set}

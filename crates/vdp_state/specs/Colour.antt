@@ -1,4 +1,4 @@
--- The colour word: document 01, Ports ("keeping bits of 0EEEh"); notes s9.
+-- The colour word: definition, Ports ("takes the bits of 0EEEh of the word"); notes s9.
 use Prim.Native.Nat.{ℕ, _+_, _*_, _/_, _%_}
 
 -- blue, green and red of a colour word, three bits each

@@ -1,4 +1,4 @@
--- The fresh state: document 01, The state ("Fresh: all zero, PAL as asked").
+-- The fresh state: definition, The state ("A fresh state has 0 in every field and nothing set, but for PAL").
 use mathlib.Core.Bool.{Bool, false}
 use lib.ListN.{replicate}
 use Rattle.vdp_state.specs.declared.state.State.{State}

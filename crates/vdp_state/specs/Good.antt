@@ -1,4 +1,4 @@
--- GOOD: document 01, The state.
+-- GOOD: definition, The state.
 use Prim.Native.Nat.{ℕ, _%_, _^_}
 use mathlib.Core.Bool.{Bool, true, _&&_, _||_, Bool·beq}
 use mathlib.Core.List.{List, [], _∷_}
@@ -13,27 +13,27 @@ abbrev pub all : (ℕ → Bool) → List ℕ → Bool
 all p [] = true
 all p (x ∷ xs) = p x && all p xs
 
--- "colour words have only bits of 0EEEh"
+-- "No colour word has a bit outside 0EEEh."
 abbrev pub isColour : ℕ → Bool
 isColour w = eqb (colourWord w) w
 
--- "scroll words are at most 3FFh"
+-- "No scroll word is above 3FFh."
 abbrev pub isScroll : ℕ → Bool
 isScroll w = leb w 0x3ff
 
--- the most units that can remain (document 01: 65,535)
+-- "The units remaining are not above 65,535."
 abbrev pub mostUnits : ℕ
 mostUnits = 65535
 
--- "source zero but for kinds 2 (even, 24 bits) and 4 (16 bits)"
+-- "The source is 0, or it is even and below 2^24 in kind 2, or it is below 2^16 in kind 4."
 abbrev pub goodSource : ℕ → ℕ → Bool
 goodSource kind source =
     eqb source 0
     || (eqb kind 2 && eqb (source % 2) 0 && ltb source (2 ^ 24))
     || (eqb kind 4 && ltb source (2 ^ 16))
 
--- "kind at most 4, remaining at most 65,535 and zero exactly for kinds 0 and 1", the source,
--- and "fill byte zero but for kind 3"
+-- "The DMA kind is not above 4."; the most units remaining, and "They are 0 in kinds 0 and 1, and at least 1 in kinds
+-- 2, 3 and 4."; the source; "The fill byte is 0, or the kind is 3."
 abbrev pub goodDma : Dma → Bool
 goodDma d =
     leb (d .kind) 4
@@ -42,7 +42,7 @@ goodDma d =
     && goodSource (d .kind) (d .source)
     && (eqb (d .fill) 0 || eqb (d .kind) 3)
 
--- "code is at most 63"
+-- "The code is not above 63."
 abbrev pub goodControl : Control → Bool
 goodControl c = leb (c .port .code) 63 && goodDma (c .dma)
 

@@ -30,7 +30,8 @@ pub record GoodChip (c : Chip) : Type 0 where
   pub vram : AllBytes (c .vram)
   pub size : length (c .vram) ≡ 65536
 
--- document 01, The tape: "place (2, even for VRAM, else the index)", and the contents that GOOD admits there
+-- definition, The tape: "the even address of a VRAM word, else the number of the word or register", and the contents
+-- that GOOD admits there
 abbrev pub goodStore : Store → Bool
 goodStore Nothing = true
 goodStore (Vram place w) = eqb (place % 2) 0 && ltb place 65536 && ltb w 65536

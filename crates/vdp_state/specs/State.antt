@@ -1,4 +1,4 @@
--- The chip: its state beside the 65,536 bytes of VRAM (document 01, The state), and a state with one part replaced.
+-- The chip: its state beside the 65,536 bytes of VRAM (definition, The state), and a state with one part replaced.
 use Prim.Native.Nat.{ℕ}
 use mathlib.Core.List.{List}
 use Rattle.vdp_state.specs.declared.state.Control.{Control}

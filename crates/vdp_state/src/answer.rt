@@ -1,4 +1,4 @@
-// The numbers a call may answer (document 01, Numbers a call may answer) and the answers that carry them.
+// The numbers a call may answer (definition, Numbers a call may answer) and the answers that carry them.
 ghost use mathlib.Core.Path.{_≡_};
 ghost use Rattle.vdp_state.specs.Answer.{answered as answeredAs, outcome, served};
 ghost use Rattle.vdp_state.specs.State.{chip};

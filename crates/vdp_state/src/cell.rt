@@ -1,4 +1,4 @@
-// Cells: what a step does to the state and VRAM, and the step that undoes it (document 01, The tape).
+// Cells: what a step does to the state and VRAM, and the step that undoes it (definition, The tape).
 ghost use mathlib.Core.Path.{_≡_};
 ghost use Prim.Native.Nat.{_+_, _*_};
 ghost use lib.ListN.{getD, set};

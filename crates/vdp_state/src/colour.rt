@@ -1,4 +1,4 @@
-// The colour word (document 01, Ports; notes s9): three bits each of blue, green and red.
+// The colour word (definition, Ports; notes s9): three bits each of blue, green and red.
 ghost use mathlib.Core.Path.{_≡_};
 ghost use Rattle.vdp_state.specs.Colour.{colourWord};
 

@@ -1,4 +1,4 @@
-// GOOD (document 01, The state): which states a call serves.
+// GOOD (definition, The state): which states a call serves.
 ghost use mathlib.Core.Path.{_≡_};
 ghost use Rattle.vdp_state.specs.Good.{all, isColour, isScroll, goodSource, goodDma, goodControl, good as isGood};
 use crate::colour::colour_word;

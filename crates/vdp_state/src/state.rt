@@ -1,4 +1,4 @@
-// The chip's state (document 01, The state) and a step, which is all that a port access, a DMA unit, a line or a new
+// The chip's state (definition, The state) and a step, which is all that a port access, a DMA unit, a line or a new
 // frame does to it: a new control part and at most one stored cell.
 
 // The address and code registers, and whether the second half of a command is awaited.

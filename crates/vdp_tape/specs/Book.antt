@@ -1,4 +1,4 @@
--- The book: document 01, The book for demand 3. It keeps a full copy of the chip for each step.
+-- The book: definition, The book. It keeps a full copy of the chip for each step.
 use Prim.Native.Nat.{ℕ, zero, suc}
 use mathlib.Core.Bool.{cond}
 use mathlib.Core.List.{List, [], _∷_}
@@ -18,18 +18,19 @@ pub data Act : Type 0 where
   Make : Call → Act
   StepBack : ℕ → Act
 
--- "It holds a present state, a present VRAM and a pile of pages; a page is a full copy of a state and 65,536 bytes", and
--- "of the tape only its capacity"
+-- "The book holds a present state and VRAM, a list of pages, the latest on top, and the capacity of the tape. A page
+-- holds a whole state and all 65,536 bytes of a VRAM."
 pub record Book : Type 0 where
   pub present : Chip
   pub pages : List Chip
   pub capacity : ℕ
 
--- "At the start the present ones are those handed in, there are no pages"
+-- "At the start the present state and VRAM are those handed in, and there is no page."
 abbrev pub newBook : Chip → ℕ → Book
 newBook c capacity = record { present = c; pages = []; capacity = capacity }
 
--- "put a page of the present ones on top, then make them what the definition of the unit gives", n times
+-- "a copy of the present state and VRAM goes on top as a page, and the present ones become what the step makes of
+-- them", n times
 abbrev pub turnPage : (Chip → Step) → Book → Book
 turnPage step b =
     record { present = perform (b .present) (step (b .present)); pages = b .present ∷ b .pages; capacity = b .capacity }
@@ -37,8 +38,8 @@ turnPage step b =
 abbrev pub turned : (Chip → Step) → ℕ → Book → Book
 turned step n b = iterate (turnPage step) n b
 
--- "An accepted step back of k makes the k-th page from the top the present and drops it and those above; of 0 it
--- changes nothing."
+-- "A step back of k that is done takes the state and VRAM of the k-th page from the top as the present ones, and
+-- removes that page and those above it. A step back of 0 changes nothing."
 abbrev pub turnedBack : ℕ → Book → Book
 turnedBack zero b = b
 turnedBack (suc k) b = record { present = getD (b .pages) k (b .present); pages = drop (suc k) (b .pages); capacity = b .capacity }
@@ -48,21 +49,21 @@ pub record BookOutcome : Type 0 where
   pub number : ℕ
   pub book : Book
 
--- "A refused call changes nothing."
+-- "A refused call changes nothing in the book."
 abbrev pub bookOutcomeAt : ℕ → Book → Book → BookOutcome
 bookOutcomeAt n before after =
     cond (eqb n 0) (record { number = 0; book = after }) (record { number = n; book = before })
 
--- a recorded call: "A call's number is the table's, read with the present state and VRAM and with the number of pages as
--- the count"
+-- a recorded call: "The number of a call is found with the present state and VRAM as its own and the number of pages as
+-- the count."
 abbrev pub enterBy : Plan → Book → BookOutcome
 enterBy p b = bookOutcomeAt (recordedNumber (p .tests) (length (b .pages)) (b .capacity) (p .steps)) b (turned (p .step) (p .steps) b)
 
--- a step back: "8 is never given"
+-- a step back: "The book never answers 8."
 abbrev pub enterBack : ℕ → Book → BookOutcome
 enterBack k b = bookOutcomeAt (first (backTests (b .present) (length (b .pages)) (b .capacity) k)) b (turnedBack k b)
 
--- "It is fed each call with its arguments"
+-- "The book is told each call with its arguments."
 abbrev pub enter : Act → Book → BookOutcome
 enter (Make call) b = enterBy (planOf call (b .present)) b
 enter (StepBack k) b = enterBack k b

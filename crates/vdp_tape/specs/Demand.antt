@@ -1,4 +1,4 @@
--- Demand 3: for every sequence of calls, what the functions give is what the book gives, after each call.
+-- Demand 3 (definition, The book): for every sequence of calls, what the functions give is what the book gives.
 use Prim.Native.Nat.{ℕ, suc, _<_}
 use mathlib.Core.Path.{_≡_}
 use mathlib.Core.List.{List, [], _∷_}

@@ -1,4 +1,4 @@
--- The recorded line: what it leaves on the chip and the tape, and the pixel buffer (document 01, The tape and Drawing).
+-- The recorded line: what it leaves on the chip and the tape, and the pixel buffer (definition, The tape and Drawing).
 use Prim.Native.Nat.{ℕ}
 use mathlib.Core.Bool.{cond}
 use mathlib.Core.List.{List}
@@ -14,7 +14,7 @@ pub record LineTapeOutcome : Type 0 where
 abbrev pub lineTapeOutcome : TapeOutcome → List ℕ → LineTapeOutcome
 lineTapeOutcome o pixels = record { outcome = o; pixels = pixels }
 
--- "its recorded form does the plain form's work": the pixels too, unless it is refused
+-- "Pixels are drawn as by the plain line."; a refused line leaves them
 abbrev pub recordedLine : ℕ → List ℕ → Recorder → LineTapeOutcome
 recordedLine n pixels r =
     let o = recorded (Line n pixels) r in

@@ -1,4 +1,4 @@
--- A tape record: the step that undoes a step, in 32 bytes (document 01, The tape). One layout writes and reads it.
+-- A tape record: the step that undoes a step, in 32 bytes (definition, The tape). One layout writes and reads it.
 use Prim.Native.Nat.{ℕ, zero, suc, _+_, _*_, _/_, _%_}
 use mathlib.Core.Bool.{Bool, cond, _&&_}
 use mathlib.Core.List.{List, [], _∷_, _++_}
@@ -12,7 +12,8 @@ use Rattle.vdp_state.specs.Range.{goodStore}
 use Rattle.vdp_state.specs.Same.{same}
 use Rattle.vdp_tape.specs.declared.«record».Kept.{Kept}
 
--- "cell kind 0 none, 1 VRAM word, 2 colour, 3 scroll, 4 register; place; content. Kind 0 has zero place and content."
+-- "the kind of cell: 0 none, 1 VRAM word, 2 colour word, 3 scroll word, 4 register", its place and its content; "A step
+-- that stores nothing has a record with cell kind 0, place 0 and content 0"
 abbrev pub kept : ℕ → ℕ → ℕ → Kept
 kept kind place content = record { kind = kind; place = place; content = content }
 
@@ -35,7 +36,7 @@ storeOf c =
 abbrev pub bit : Bool → ℕ
 bit b = cond b 1 0
 
--- "version 1"
+-- "the version, 1"
 abbrev pub version : ℕ
 version = 1
 
@@ -47,8 +48,7 @@ pub record Field : Type 0 where
 abbrev pub field : ℕ → (Step → ℕ) → Field
 field width value = record { width = width; value = value }
 
--- "version 1; length 32 (2 bytes); cell kind; place (2); old content (2); then the state before: address (2), code,
--- pending, DMA kind, remaining (3), source (3), fill byte, flags (1 overflow, 2 collision), 11 zeros"
+-- the table of definition, The tape, row by row: how many bytes, and what they hold
 abbrev pub layout : List Field
 layout =
     field 1 (λ t. version)
@@ -83,7 +83,8 @@ reading v size kind place content address code pending dma remaining source fill
       store = storeOf (kept kind place content);
     }
 
--- "Big-endian": a number in so many bytes, and the number of so many bytes at an index
+-- "A number of more than one byte has its uppermost byte first.": a number in so many bytes, and the number of so many
+-- bytes at an index
 abbrev pub bytesOf : ℕ → ℕ → List ℕ
 bytesOf zero n = []
 bytesOf (suc width) n = bytesOf width (n / 256) ++ (n % 256 ∷ [])
@@ -108,8 +109,8 @@ readFrom (f ∷ fs) r i l = readFrom fs (r (numberAt l i (f .width))) (i + f .wi
 abbrev pub stepOf : List ℕ → Step
 stepOf l = readFrom layout reading 0 l
 
--- "A good record keeps these ranges and those of GOOD; every other is bad": its bytes are those of the step that they
--- read as, and that step is in range
+-- "A record is good if its fields are in the ranges of this table and what they hold is in the ranges of GOOD": its
+-- bytes are those of the step that they read as, and that step is in range
 abbrev pub goodRecord : List ℕ → Bool
 goodRecord l = same (recordOf (stepOf l)) l && goodControl (stepOf l .control) && goodStore (stepOf l .store)
 

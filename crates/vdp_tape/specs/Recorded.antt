@@ -1,4 +1,4 @@
--- The recorded calls: the plain form's work and one record for each step (document 01, The tape).
+-- The recorded calls: the plain form's work and one record for each step (definition, The tape).
 use Prim.Native.Nat.{ℕ}
 use mathlib.Core.Path.{_≡_}
 use mathlib.Core.List.{List}
@@ -14,8 +14,8 @@ use Rattle.vdp_dma.specs.Unit.{unit}
 use Rattle.vdp_line.specs.Line.{lineTests, lineStep, visits, line}
 use Rattle.vdp_tape.specs.Recorder.{Recorder, Plan, TapeOutcome, recordedBy}
 
--- a recorded call with its arguments; "Cartridge, work RAM and pixel buffer may be others at each call". A byte write is the write of
--- its `byteWord`.
+-- a recorded call with its arguments; "Each call may be lent another cartridge, work RAM and pixel buffer." A byte
+-- write is the write of its `byteWord`.
 pub data Call : Type 0 where
   ControlWrite : ℕ → Call
   DataWrite : ℕ → Call
@@ -25,11 +25,11 @@ pub data Call : Type 0 where
   Run : List ℕ → List ℕ → ℕ → Call
   Line : ℕ → List ℕ → Call
 
--- "Each port access, DMA unit, line and new frame is one step"
+-- "A port access, a DMA unit, a line and a new frame are one step each."
 abbrev pub once : List Test → ℕ → (Chip → Step) → Plan
 once tests result step = record { tests = tests; result = result; steps = 1; step = step }
 
--- "its recorded form does the plain form's work"
+-- "The recorded form of a call does the same work as the plain form"
 abbrev pub planOf : Call → Chip → Plan
 planOf (ControlWrite w) c = once (controlTests (c .state)) 0 (λ x. controlStep (x .state) w)
 planOf (DataWrite w) c = once (dataTests c) 0 (λ x. dataWriteStep (x .state) w)

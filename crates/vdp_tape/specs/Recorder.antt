@@ -1,4 +1,4 @@
--- What a caller of recorded calls holds from call to call, and a step recorded: document 01, The tape.
+-- What a caller of recorded calls holds from call to call, and a step recorded: definition, The tape.
 use Prim.Native.Nat.{ℕ, _+_, _*_}
 use mathlib.Core.Bool.{cond}
 use mathlib.Core.List.{List}
@@ -22,7 +22,7 @@ pub record Recorder : Type 0 where
 abbrev pub recorder : State → List ℕ → List ℕ → ℕ → Recorder
 recorder s vram tape count = record { chip = chip s vram; tape = tape; count = count }
 
--- "adds one record": "A new record goes at the count."
+-- "A record goes to the tape at byte 32 x count, and the count goes up by one."
 unfoldable pub recordStep : Recorder → Step → Recorder
 recordStep r t =
     record {
@@ -54,8 +54,8 @@ pub record TapeOutcome : Type 0 where
 abbrev pub tapeOutcome : TapeAnswer → List ℕ → List ℕ → TapeOutcome
 tapeOutcome r vram tape = record { number = r .number; result = r .result; recorder = recorder (r .state) vram tape (r .count) }
 
--- a call that answers n: at 0 it leaves what its steps left, else "the state and count as they came, zero for every other
--- result", and the rest untouched
+-- a call that answers n: at 0 it leaves what its steps left, else "the state and the count as it was given them, and 0
+-- as its result", and the rest as it was
 abbrev pub tapeOutcomeAt : ℕ → ℕ → Recorder → Recorder → TapeOutcome
 tapeOutcomeAt n result before after =
     cond (eqb n 0) (record { number = 0; result = result; recorder = after })

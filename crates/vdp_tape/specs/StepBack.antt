@@ -1,4 +1,4 @@
--- Step back: document 01, The tape.
+-- Step back: definition, The tape.
 use Prim.Native.Nat.{ℕ, zero, suc, _-_}
 use mathlib.Core.Bool.{Bool, true, not, _&&_}
 use mathlib.Core.List.{List, [], _∷_}
@@ -21,11 +21,11 @@ abbrev pub undo : List ℕ → ℕ → ℕ → Chip → Chip
 undo tape n zero c = c
 undo tape n (suc k) c = undo tape (n - 1) k (perform c (stepOf (recordAt tape (n - 1))))
 
--- 10: "step back of more than the count"
+-- 10: "a step back of more steps than the count"
 abbrev pub nothingThere : ℕ → ℕ → Test
 nothingThere count k = gives 10 (ltb count k)
 
--- 8: "one of the top k records breaks the layout"
+-- 8: "one of the top k records is not good"
 abbrev pub badRecord : List ℕ → ℕ → ℕ → Test
 badRecord tape count k = gives 8 (not (topGood tape count k))
 
@@ -35,7 +35,7 @@ backTests c count room k = badState (c .state) ∷ badVram (c .vram) ∷ overCap
 abbrev pub backNumber : Recorder → ℕ → ℕ
 backNumber r k = first (badRecord (r .tape) (r .count) k ∷ backTests (r .chip) (r .count) (capacity (r .tape)) k)
 
--- "Step back lowers the count by k; no tape byte changes."
+-- "The count goes down by k. No byte of the tape changes."
 abbrev pub stepBack : Recorder → ℕ → TapeOutcome
 stepBack r k =
     tapeOutcomeAt (backNumber r k) 0 r (record { chip = undo (r .tape) (r .count) k (r .chip); tape = r .tape; count = r .count - k })

@@ -1,4 +1,4 @@
-// The recorded calls (document 01, The tape): the plain form's work, and one record for each step.
+// The recorded calls (definition, The tape): the plain form's work, and one record for each step.
 ghost use mathlib.Core.Path.{_≡_};
 ghost use mathlib.Core.List.{List};
 ghost use Prim.Native.Nat.{ℕ, _+_, _≤_};

@@ -1,4 +1,4 @@
-// The tape (document 01, The tape): records, recorded calls and step back, and the claim over whole sequences of calls.
+// The tape (definition, The tape): records, recorded calls and step back, and the claim over whole sequences of calls.
 pub mod calls;
 pub mod line;
 pub mod number;

@@ -1,4 +1,4 @@
-// The recorded line (document 01, The tape and Drawing): the plain line's work and one record, of a step that stores
+// The recorded line (definition, The tape and Drawing): the plain line's work and one record, of a step that stores
 // nothing.
 ghost use mathlib.Core.Path.{_≡_};
 ghost use Rattle.vdp_tape.specs.Line.{lineTapeOutcome, recordedLine};

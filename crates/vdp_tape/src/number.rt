@@ -1,4 +1,4 @@
-// What the tape adds to a call's refusals (document 01, Numbers a call may answer).
+// What the tape adds to a call's refusals (definition, Numbers a call may answer).
 ghost use mathlib.Core.Path.{_≡_};
 ghost use Rattle.vdp_tape.specs.Number.{capacity as capacityOf};
 ghost use Rattle.vdp_tape.specs.OneStep.{Numbered};

@@ -1,4 +1,4 @@
-// A tape record (document 01, The tape): the step that undoes a step, in 32 bytes.
+// A tape record (definition, The tape): the step that undoes a step, in 32 bytes.
 ghost use mathlib.Core.Path.{_≡_};
 ghost use Prim.Native.Nat.{_+_, _*_};
 ghost use Rattle.vdp_tape.specs.Record.{keptOf, storeOf, bit as bitOf, numberAt, recordOf, stepOf, goodRecord};

@@ -1,4 +1,4 @@
-// A step recorded and made (document 01, The tape).
+// A step recorded and made (definition, The tape).
 ghost use mathlib.Core.Path.{_≡_};
 ghost use Prim.Native.Nat.{_+_, _<_, _≤_};
 ghost use lib.ListN.{length};

@@ -1,4 +1,4 @@
-// Step back (document 01, The tape): the top k records undone, from the top down.
+// Step back (definition, The tape): the top k records undone, from the top down.
 ghost use mathlib.Core.Path.{_≡_};
 ghost use Prim.Native.Nat.{_≤_};
 ghost use Rattle.vdp_state.specs.State.{chip};

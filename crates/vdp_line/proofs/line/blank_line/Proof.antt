@@ -6,7 +6,7 @@ use Rattle.vdp_draw.specs.Width.{widthOf}
 use Rattle.vdp_line.proofs.Bounds.{width-small}
 use Rattle.vdp_line.proofs.Made.{made-blank}
 use Rattle.vdp_line.specs.Layout.{wide, backdrop}
-use Rattle.vdp_line.specs.Line.{lineDrawn}
+use Rattle.vdp_line.specs.Line.{lineOutcome}
 use Rattle.vdp_state.specs.Answer.{done}
 use Rattle.vdp_state.specs.State.{chip}
 use borrow.Author.Needs.{needs}
@@ -24,7 +24,7 @@ returns c = let m = c .before .before in
     let w = m .before .before .before in
     let start = w .before .before .before .before in
     let a = start .args in
-    ap (lineDrawn (done 0 (a .s)))
+    ap (lineOutcome (done 0 (a .s)))
     (m .blank-columns .ensures
     ∙ ap₂ (λ (n b : ℕ). painted (λ y _. b) 0 n (a .pixels .now)) (w .width-of .ensures ∙ ap widthOf (w .before .wide .ensures)) (m .before .before .backdrop .ensures)
     ∙ painted-all (λ y. backdrop (a .s)) (widthOf (wide (a .s))) (a .pixels .now) (omega (arith, width-small (wide (a .s)), start .pre .1)))

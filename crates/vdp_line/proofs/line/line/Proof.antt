@@ -3,7 +3,7 @@ use Prim.Native.Nat.{ℕ, _<_}
 use Rattle.vdp_line.proofs.Accepted.{accepted}
 use Rattle.vdp_line.proofs.Bounds.{height-small}
 use Rattle.vdp_line.specs.Layout.{height}
-use Rattle.vdp_line.specs.Line.{lineNumber, lineDrawn, LineDrawn, lineMade, line}
+use Rattle.vdp_line.specs.Line.{lineNumber, lineOutcome, LineOutcome, lineMade, line}
 use Rattle.vdp_state.specs.Answer.{refused}
 use Rattle.vdp_state.specs.State.{chip}
 use borrow.Author.Needs.{needs}
@@ -20,7 +20,7 @@ abbrev start : tie.After-line-number → tie.Start
 start c = c .before .before .before .before
 
 -- the line as the definition has it
-abbrev whole : tie.Start → LineDrawn
+abbrev whole : tie.Start → LineOutcome
 whole c = line (chip (c .args .s) (c .args .vram .now)) (c .args .line) (c .args .pixels .now)
 
 -- an accepted line
@@ -40,8 +40,8 @@ module _ (c : tie.Else1) where
 returns : tie.Need-returns
 returns c = let a = start (c .before) .args in
     let k = chip (a .s) (a .vram .now) in
-    ap (λ (n : ℕ). lineDrawn (refused n (a .s)) (a .pixels .now)) (c .before .line-number .ensures)
-    ∙ sym (ap (λ (t : _). cond t (lineMade k (a .line) (a .pixels .now)) (lineDrawn (refused (lineNumber k (a .line) (a .pixels .now)) (a .s)) (a .pixels .now))) (ap (λ (n : ℕ). eqb n 0) (sym (c .before .line-number .ensures)) ∙ ne-eqb _ _ (c .if1 .taken)))
+    ap (λ (n : ℕ). lineOutcome (refused n (a .s)) (a .pixels .now)) (c .before .line-number .ensures)
+    ∙ sym (ap (λ (t : _). cond t (lineMade k (a .line) (a .pixels .now)) (lineOutcome (refused (lineNumber k (a .line) (a .pixels .now)) (a .s)) (a .pixels .now))) (ap (λ (n : ℕ). eqb n 0) (sym (c .before .line-number .ensures)) ∙ ne-eqb _ _ (c .if1 .taken)))
 
 cast-shown-line : tie.Need-cast-shown-line
 cast-shown-line c = omega (arith, small (c .before .before))

@@ -1,6 +1,6 @@
 -- Refused, or drawn and recorded.
 use Prim.Native.Nat.{ℕ}
-use Rattle.vdp_line.specs.Line.{LineDrawn, lineDrawn, lineMade, linePixels}
+use Rattle.vdp_line.specs.Line.{LineOutcome, lineOutcome, lineMade, linePixels}
 use Rattle.vdp_state.specs.Answer.{first}
 use Rattle.vdp_state.specs.State.{chip}
 use Rattle.vdp_state.specs.declared.state.Step.{Step}
@@ -47,7 +47,7 @@ number t = t .with-tape .ensures .is (plan (start t) .tests) (t .before .before 
 
 -- an accepted line was drawn
 drawn-as : (c : tie.After-line) → let a = start (c .before .before .before) .args in
-    lineDrawn (c .line .result) (c .line .last .1 .1 .1 .0) ≡ lineMade (chip (a .s) (a .vram .now)) (a .line) (a .pixels .now)
+    lineOutcome (c .line .result) (c .line .last .1 .1 .1 .0) ≡ lineMade (chip (a .s) (a .vram .now)) (a .line) (a .pixels .now)
 drawn-as c =
     let t = c .before .before .before in
     let a = start t .args in
@@ -66,9 +66,9 @@ returns-2 c = let w = c .before .before in
     let s = start t in
     let made = drawn-as l in
     let outcome = w .without-vram .ensures (s .args .vram .now) (plan s)
-    (record { number = t .before .before .line-number .ensures; result = ap (λ (d : LineDrawn). d .answer .result) made; one = refl; step = ap (λ (d : LineDrawn). record { control = d .answer .state .control; store = Nothing }) made }) tt in
+    (record { number = t .before .before .line-number .ensures; result = ap (λ (d : LineOutcome). d .answer .result) made; one = refl; step = ap (λ (d : LineOutcome). record { control = d .answer .state .control; store = Nothing }) made }) tt in
     let zero : recordedBy (plan s) (before s) .number ≡ 0 = simp (sym (number t) ∙ l .before .before .if1 .left) in
-    ap (lineTapeOutcome _) (ap (λ (d : LineDrawn). d .pixels) made)
+    ap (lineTapeOutcome _) (ap (λ (d : LineOutcome). d .pixels) made)
     ∙ line-drawn _ (recordedBy (plan s) (before s)) outcome (linePixels (before s .chip) (s .args .line) (s .args .pixels .now)) (s .args .pixels .now) (ap (λ (o : TapeOutcome). o .number) outcome ∙ zero)
 
 pub line-spec : {M : Type 1} → statement M
