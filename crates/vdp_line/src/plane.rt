@@ -1,6 +1,6 @@
 // Planes and the window (definition, Drawing; notes s12 to s14).
 ghost use mathlib.Core.Path.{_≡_};
-ghost use Prim.Native.Nat.{_<_, _≤_};
+ghost use Prim.Native.Nat.{_*_, _%_, _<_, _≤_};
 ghost use Rattle.vdp_line.specs.Plane.{planeA, planeB, windowColumns, window as windowOf, rowOf, rowDot};
 use crate::layout::base_a;
 use crate::layout::base_b;
@@ -81,14 +81,31 @@ pub(crate) fn row_of(p: Plane, h: u16, v: u16, line: u8) -> Row
     }
 }
 
+// A pixel of a row of so many cells. The sizes that registers give are powers of two, for which a remainder is quick.
+fn pixel_of(n: u32, columns: u8) -> u32
+    requires { ⌜ 0 < columns ⌝ }
+    ensures { λ r. ⌜ r ≡ n % (8 * columns) ⌝ }
+{
+    if columns == 32 {
+        return n % 256;
+    }
+    if columns == 64 {
+        return n % 512;
+    }
+    if columns == 128 {
+        n % 1024
+    } else {
+        n % (8 * (columns as u32))
+    }
+}
+
 // The dot that a row shows on column x of the screen.
 pub(crate) fn row_dot(vram: &[u8], r: Row, x: u16) -> u8
     requires { ⌜ 0 < r .columns ⌝ }
     ensures { λ d. ⌜ d ≡ rowDot (now (vram .entry)) r x ⌝ }
 {
-    let columns = r.columns as u32;
-    let across = ((x as u32) + (r.shift as u32)) % (8 * columns);
-    let place = (r.base as u32) + 2 * ((r.row as u32) * columns + across / 8);
+    let across = pixel_of((x as u32) + (r.shift as u32), r.columns);
+    let place = (r.base as u32) + 2 * ((r.row as u32) * (r.columns as u32) + across / 8);
     let cell = word_at(vram, place);
     block_dot(vram, cell, 1, 1, r.line as u16, (across % 8) as u16)
 }
