@@ -84,7 +84,7 @@ copyStep c =
       store = byteStored (c .vram) (k .port .address) (getD (c .vram) (k .dma .source) 0);
     }
 
--- the unit that a chip makes next, by its DMA kind
+-- the unit that a chip makes next, by its DMA kind: 2, 3 or 4, as no unit is left in kinds 0 and 1
 abbrev pub unit : List ℕ → List ℕ → Chip → Step
 unit cartridge ram c =
     cond (eqb (c .state .control .dma .kind) 2) (transferStep (c .state) (wordFrom cartridge ram (c .state .control .dma .source)))

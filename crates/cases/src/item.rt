@@ -1,0 +1,110 @@
+// The items of the text: a case's name, a command, a value to show, a mark, a comment.
+use crate::case::Case;
+use crate::case::answered;
+use crate::case::marked;
+use crate::case::moved;
+use crate::case::named;
+use crate::text::after_dot;
+use crate::text::line_end;
+use crate::text::number;
+use crate::text::onward;
+use crate::text::place_of;
+use crate::text::write_name;
+use crate::text::write_value;
+use crate::value::value;
+use stream::command::Command;
+use stream::session::turn;
+use stream::setup::fill;
+use vdp_state::cell::byte_at;
+
+fn clear(vram: &mut [u8], ram: &mut [u8], cartridge: &mut [u8], tape: &mut [u8]) {
+    fill(vram, 0);
+    fill(ram, 0);
+    fill(cartridge, 0);
+    fill(tape, 0);
+}
+
+// `= NAME`: a case begins.
+fn begin(c: Case, text: &[u8]) -> Case {
+    named(c, onward(onward(c.at)), line_end(text, c.at))
+}
+
+// `?WHICH NAME` or `?WHICH.INDEX NAME`: a value is shown.
+fn show(c: Case, text: &[u8], vram: &[u8]) -> Case {
+    let which = number(text, onward(c.at));
+    let index = after_dot(text, which);
+    let end = line_end(text, c.at);
+    write_name(text, c.name, c.name_end);
+    write_name(text, onward(index.end), end);
+    write_value(value(c, vram, which.value, index.value));
+    moved(c, end)
+}
+
+// The op of a letter: 1 to 12, and 32 to 39.
+fn op_of(letter: u8) -> u8 {
+    let i = place_of(b"cCdDrsulfkpx!zbgnmth", letter);
+    if i < 12 {
+        (i as u8) + 1
+    } else {
+        ((i % 32) as u8) + 20
+    }
+}
+
+// A command, and where the text goes on after it.
+struct Read {
+    command: Command,
+    end: usize,
+}
+
+// A letter and up to three numbers with dots between them: a, b and c. One number serves for all three.
+fn command(text: &[u8], at: usize) -> Read {
+    let a = number(text, onward(at));
+    let b = after_dot(text, a);
+    let c = after_dot(text, b);
+    Read {
+        command: Command {
+            op: op_of(byte_at(text, at)),
+            a: (a.value % 256) as u8,
+            b: (b.value % 65536) as u16,
+            c: c.value,
+        },
+        end: c.end,
+    }
+}
+
+// A command is done.
+fn act(
+    c: Case,
+    text: &[u8],
+    vram: &mut [u8],
+    ram: &mut [u8],
+    cartridge: &mut [u8],
+    tape: &mut [u8],
+) -> Case {
+    let read = command(text, c.at);
+    let k = read.command;
+    answered(c, turn(c.machine, k, vram, ram, cartridge, tape), read.end)
+}
+
+// What the next item does. `*` marks the state and VRAM, and `#` begins a comment.
+pub(crate) fn item(
+    c: Case,
+    text: &[u8],
+    vram: &mut [u8],
+    ram: &mut [u8],
+    cartridge: &mut [u8],
+    tape: &mut [u8],
+) -> Case {
+    let b = byte_at(text, c.at);
+    match b {
+        0..=b' ' => moved(c, onward(c.at)),
+        b'=' => {
+            clear(vram, ram, cartridge, tape);
+            begin(c, text)
+        }
+        b'?' => show(c, text, vram),
+        b'*' => moved(marked(c, vram), onward(c.at)),
+        b'#' => moved(c, line_end(text, c.at)),
+        _ => act(c, text, vram, ram, cartridge, tape),
+    }
+}
