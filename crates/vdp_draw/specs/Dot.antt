@@ -27,8 +27,8 @@ abbrev pub dotOf : ℕ → ℕ → ℕ
 dotOf cell pixel = 64 * (cell / 32768) + 16 * (cell / 8192 % 4) + pixel
 
 -- one of n places, counted from the other end where it is flipped
-abbrev pub turned : Bool → ℕ → ℕ → ℕ
-turned flip n i = cond flip (n - 1 - i) i
+abbrev pub flipped : Bool → ℕ → ℕ → ℕ
+flipped flip n i = cond flip (n - 1 - i) i
 
 -- the name of a block's cell that is so many cells across and down: "The names of a sprite run down its columns"
 abbrev pub blockName : ℕ → ℕ → ℕ → ℕ → ℕ
@@ -38,6 +38,6 @@ blockName cell across rows down = (name cell + across * rows + down) % 2048
 -- cell is a block of one.
 unfoldable pub blockDot : List ℕ → ℕ → ℕ → ℕ → ℕ → ℕ → ℕ
 blockDot vram cell columns rows row column =
-    let across = turned (flipsAcross cell) (8 * columns) column in
-    let down = turned (flipsDown cell) (8 * rows) row in
+    let across = flipped (flipsAcross cell) (8 * columns) column in
+    let down = flipped (flipsDown cell) (8 * rows) row in
     dotOf cell (patternPixel vram (blockName cell (across / 8) rows (down / 8)) (down % 8) (across % 8))

@@ -1,7 +1,7 @@
 // Dots (definition, Drawing): what a layer shows on a column, 64 x priority + colour index.
 ghost use mathlib.Core.Path.{_≡_};
 ghost use Prim.Native.Nat.{_<_};
-ghost use Rattle.vdp_draw.specs.Dot.{solid as isSolid, dotOf, turned as turnedPlace, blockName, blockDot};
+ghost use Rattle.vdp_draw.specs.Dot.{solid as isSolid, dotOf, flipped as flippedPlace, blockName, blockDot};
 use crate::pattern::pattern_pixel;
 
 // Whether a dot shows: pixel 0 is clear.
@@ -12,8 +12,8 @@ pub fn solid(dot: u8) -> bool
 }
 
 // One of n places, counted from the other end where it is flipped.
-fn turned(flip: bool, n: u16, i: u16) -> u16
-    ensures { λ r. ⌜ r ≡ turnedPlace flip n i ⌝ }
+fn flipped(flip: bool, n: u16, i: u16) -> u16
+    ensures { λ r. ⌜ r ≡ flippedPlace flip n i ⌝ }
 {
     if !flip {
         return i;
@@ -40,8 +40,8 @@ fn block_name(cell: u16, across: u16, rows: u8, down: u16) -> u16
 pub fn block_dot(vram: &[u8], cell: u16, columns: u8, rows: u8, row: u16, column: u16) -> u8
     ensures { λ r. ⌜ r ≡ blockDot (now (vram .entry)) cell columns rows row column ⌝ }
 {
-    let across = turned(cell / 2048 % 2 == 1, 8 * (columns as u16), column);
-    let down = turned(cell / 4096 % 2 == 1, 8 * (rows as u16), row);
+    let across = flipped(cell / 2048 % 2 == 1, 8 * (columns as u16), column);
+    let down = flipped(cell / 4096 % 2 == 1, 8 * (rows as u16), row);
     let name = block_name(cell, across / 8, rows, down / 8);
     dot_of(
         cell,

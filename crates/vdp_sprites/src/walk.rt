@@ -62,12 +62,7 @@ pub(crate) fn walk(vram: &[u8], base: u16, wide: bool, line: u8) -> KeptSprites
             count += 1;
         }
         if last(wide, s.link) {
-            return KeptSprites {
-                kept,
-                count,
-                visits,
-                overflow: false,
-            };
+            break;
         }
         i = s.link;
     }

@@ -82,27 +82,25 @@ pub fn after(s: State, t: Step) -> State
     let mut next = s;
     next.control = control;
     match store {
-        Store::Nothing => next,
-        Store::Vram(_, _) => next,
+        Store::Nothing => {}
+        Store::Vram(_, _) => {}
         Store::Cram(i, w) => {
             let mut words = s.cram;
             put_number(&mut words, i as usize, w);
             next.cram = words;
-            next
         }
         Store::Vsram(i, w) => {
             let mut words = s.vsram;
             put_number(&mut words, i as usize, w);
             next.vsram = words;
-            next
         }
         Store::Register(i, b) => {
             let mut bytes = s.registers;
             put_byte(&mut bytes, i as usize, b);
             next.registers = bytes;
-            next
         }
     }
+    next
 }
 
 // Performs a step on the state and VRAM.

@@ -10,12 +10,12 @@ use crate::state::State;
 pub const MOST_UNITS: u32 = 65535;
 
 // Every word is looked at, whatever the others are: a loop without a way out runs on many words at once.
-fn colours_good(words: [u16; 64]) -> bool
-    ensures { λ r. ⌜ r ≡ all isColour words ⌝ }
+fn colours_good(words: &[u16]) -> bool
+    ensures { λ r. ⌜ r ≡ all isColour (now (words .entry)) ⌝ }
 {
     let mut ok = true;
     let mut i = 0;
-    while i < 64 {
+    while i < words.len() {
         let w = words[i];
         ok = ok & (colour_word(w) == w);
         i += 1;
@@ -23,12 +23,12 @@ fn colours_good(words: [u16; 64]) -> bool
     ok
 }
 
-fn scrolls_good(words: [u16; 40]) -> bool
-    ensures { λ r. ⌜ r ≡ all isScroll words ⌝ }
+fn scrolls_good(words: &[u16]) -> bool
+    ensures { λ r. ⌜ r ≡ all isScroll (now (words .entry)) ⌝ }
 {
     let mut ok = true;
     let mut i = 0;
-    while i < 40 {
+    while i < words.len() {
         ok = ok & (words[i] <= 0x3ff);
         i += 1;
     }
@@ -62,7 +62,5 @@ pub fn control_good(c: Control) -> bool
 pub fn good(s: State) -> bool
     ensures { λ r. ⌜ r ≡ isGood s ⌝ }
 {
-    let colours = s.cram;
-    let scrolls = s.vsram;
-    colours_good(colours) & scrolls_good(scrolls) & control_good(s.control)
+    colours_good(&s.cram) & scrolls_good(&s.vsram) & control_good(s.control)
 }

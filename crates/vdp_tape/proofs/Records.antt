@@ -22,7 +22,7 @@ use Rattle.vdp_state.specs.Same.{same}
 use Rattle.vdp_state.proofs.Bools.{both-left, both-right, both}
 use Rattle.vdp_state.proofs.Facts.{dma-facts, source-bits, parts}
 use Rattle.vdp_state.proofs.Same.{same-equal, same-self}
-use Rattle.vdp_tape.specs.Record.{keptOf, storeOf, bit, Field, layout, Reading, reading, bytesOf, numberAt, written, recordOf, readFrom, stepOf, goodRecord}
+use Rattle.vdp_tape.specs.Record.{keptOf, storeOf, flagBit, Field, layout, Reading, reading, bytesOf, numberAt, written, recordOf, readFrom, stepOf, goodRecord}
 
 -- ---- a number in bytes
 -- so many bytes hold n
@@ -117,9 +117,9 @@ kept-fits (Register i b) e =
     record { place = omega arith; content = omega arith; back = ap₂ Register (index-back i (omega arith)) (index-back b f) }
 
 pub record FlagsFit (o c : Bool) : Type 0 where
-  pub fits : InBytes 1 (bit o + 2 * bit c)
-  pub overflow : eqb ((bit o + 2 * bit c) % 2) 1 ≡ o
-  pub collision : eqb ((bit o + 2 * bit c) / 2 % 2) 1 ≡ c
+  pub fits : InBytes 1 (flagBit o + 2 * flagBit c)
+  pub overflow : eqb ((flagBit o + 2 * flagBit c) % 2) 1 ≡ o
+  pub collision : eqb ((flagBit o + 2 * flagBit c) / 2 % 2) 1 ≡ c
 
 pub flags-fit : (o c : Bool) → FlagsFit o c
 flags-fit true true = record { fits = refl; overflow = refl; collision = refl }
@@ -127,9 +127,9 @@ flags-fit true false = record { fits = refl; overflow = refl; collision = refl }
 flags-fit false true = record { fits = refl; overflow = refl; collision = refl }
 flags-fit false false = record { fits = refl; overflow = refl; collision = refl }
 
-pub bit-fits : (b : Bool) → InBytes 1 (bit b) × (eqb (bit b) 1 ≡ b)
-bit-fits true = (refl, refl)
-bit-fits false = (refl, refl)
+pub flag-bit-fits : (b : Bool) → InBytes 1 (flagBit b) × (eqb (flagBit b) 1 ≡ b)
+flag-bit-fits true = (refl, refl)
+flag-bit-fits false = (refl, refl)
 
 module _ (t : Step) (g : GoodStep t) where
   abbrev k : Control
@@ -148,14 +148,14 @@ module _ (t : Step) (g : GoodStep t) where
       let source : InBytes 3 (k .dma .source) = omega (arith, bits) in
       let fill : InBytes 1 (k .dma .fill) = omega (arith, p .fill) in
       let flags = flags-fit (k .flags .overflow) (k .flags .collision) .fits in
-      row refl (row refl (row (kind-fits (t .store)) (row (x .place) (row (x .content) (row address (row code (row (bit-fits (k .port .pending) .0)
+      row refl (row refl (row (kind-fits (t .store)) (row (x .place) (row (x .content) (row address (row code (row (flag-bit-fits (k .port .pending) .0)
       (row kind (row remaining (row source (row fill (row flags (row refl end)))))))))))))
 
   pub read-back : stepOf (recordOf t) ≡ t
   read-back =
       let f = flags-fit (k .flags .overflow) (k .flags .collision) in
       fields-back layout reading t [] fit
-      ∙ ap₂ (λ (c : Control) (x : Store). record { control = c; store = x }) (simp (bit-fits (k .port .pending) .1, f .overflow, f .collision)) (kept-fits (t .store) (g .store) .back)
+      ∙ ap₂ (λ (c : Control) (x : Store). record { control = c; store = x }) (simp (flag-bit-fits (k .port .pending) .1, f .overflow, f .collision)) (kept-fits (t .store) (g .store) .back)
 
   pub record-good : goodRecord (recordOf t) ≡ true
   record-good =

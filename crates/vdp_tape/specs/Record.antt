@@ -10,14 +10,14 @@ use Rattle.vdp_state.specs.declared.state.Store.the-variants.{Nothing, Vram, Cr
 use Rattle.vdp_state.specs.Good.{goodControl}
 use Rattle.vdp_state.specs.Range.{goodStore}
 use Rattle.vdp_state.specs.Same.{same}
-use Rattle.vdp_tape.specs.declared.«record».Kept.{Kept}
+use Rattle.vdp_tape.specs.declared.«record».KeptCell.{KeptCell}
 
 -- "the kind of cell: 0 none, 1 VRAM word, 2 colour word, 3 scroll word, 4 register", its place and its content; "A step
 -- that stores nothing has a record with cell kind 0, place 0 and content 0"
-abbrev pub kept : ℕ → ℕ → ℕ → Kept
+abbrev pub kept : ℕ → ℕ → ℕ → KeptCell
 kept kind place content = record { kind = kind; place = place; content = content }
 
-abbrev pub keptOf : Store → Kept
+abbrev pub keptOf : Store → KeptCell
 keptOf Nothing = kept 0 0 0
 keptOf (Vram place w) = kept 1 place w
 keptOf (Cram i w) = kept 2 i w
@@ -25,7 +25,7 @@ keptOf (Vsram i w) = kept 3 i w
 keptOf (Register i b) = kept 4 i b
 
 -- the store of a kept cell; an index has 8 bits, and so has a register's content
-abbrev pub storeOf : Kept → Store
+abbrev pub storeOf : KeptCell → Store
 storeOf c =
     cond (eqb (c .kind) 1) (Vram (c .place) (c .content))
     (cond (eqb (c .kind) 2) (Cram (c .place % 256) (c .content))
@@ -33,8 +33,8 @@ storeOf c =
     (cond (eqb (c .kind) 4) (Register (c .place % 256) (c .content % 256)) Nothing)))
 
 -- a flag as a bit
-abbrev pub bit : Bool → ℕ
-bit b = cond b 1 0
+abbrev pub flagBit : Bool → ℕ
+flagBit b = cond b 1 0
 
 -- "the version, 1"
 abbrev pub version : ℕ
@@ -58,12 +58,12 @@ layout =
     ∷ field 2 (λ t. keptOf (t .store) .content)
     ∷ field 2 (λ t. t .control .port .address)
     ∷ field 1 (λ t. t .control .port .code)
-    ∷ field 1 (λ t. bit (t .control .port .pending))
+    ∷ field 1 (λ t. flagBit (t .control .port .pending))
     ∷ field 1 (λ t. t .control .dma .kind)
     ∷ field 3 (λ t. t .control .dma .remaining)
     ∷ field 3 (λ t. t .control .dma .source)
     ∷ field 1 (λ t. t .control .dma .fill)
-    ∷ field 1 (λ t. bit (t .control .flags .overflow) + 2 * bit (t .control .flags .collision))
+    ∷ field 1 (λ t. flagBit (t .control .flags .overflow) + 2 * flagBit (t .control .flags .collision))
     ∷ field 11 (λ t. 0)
     ∷ []
 

@@ -1,7 +1,7 @@
 // A tape record (definition, The tape): the step that undoes a step, in 32 bytes.
 ghost use mathlib.Core.Path.{_≡_};
 ghost use Prim.Native.Nat.{_+_, _*_};
-ghost use Rattle.vdp_tape.specs.Record.{keptOf, storeOf, bit as bitOf, numberAt, recordOf, stepOf, goodRecord};
+ghost use Rattle.vdp_tape.specs.Record.{keptOf, storeOf, flagBit, numberAt, recordOf, stepOf, goodRecord};
 ghost use Rattle.vdp_state.specs.Range.{goodStore};
 ghost use Rattle.vdp_state.specs.Same.{same as sameBytes};
 use vdp_state::cell::byte_at;
@@ -41,37 +41,37 @@ const FILL: u8 = 19;
 const FLAGS: u8 = 20;
 
 // A cell's kind, place and content, as a record keeps them.
-pub struct Kept {
+pub struct KeptCell {
     pub kind: u8,
     pub place: u16,
     pub content: u16,
 }
 
-fn kept_of(store: Store) -> Kept
+fn kept_of(store: Store) -> KeptCell
     ensures { λ r. ⌜ r ≡ keptOf store ⌝ }
 {
     match store {
-        Store::Nothing => Kept {
+        Store::Nothing => KeptCell {
             kind: 0,
             place: 0,
             content: 0,
         },
-        Store::Vram(place, w) => Kept {
+        Store::Vram(place, w) => KeptCell {
             kind: 1,
             place,
             content: w,
         },
-        Store::Cram(i, w) => Kept {
+        Store::Cram(i, w) => KeptCell {
             kind: 2,
             place: i as u16,
             content: w,
         },
-        Store::Vsram(i, w) => Kept {
+        Store::Vsram(i, w) => KeptCell {
             kind: 3,
             place: i as u16,
             content: w,
         },
-        Store::Register(i, b) => Kept {
+        Store::Register(i, b) => KeptCell {
             kind: 4,
             place: i as u16,
             content: b as u16,
@@ -79,7 +79,7 @@ fn kept_of(store: Store) -> Kept
     }
 }
 
-fn store_of(c: Kept) -> Store
+fn store_of(c: KeptCell) -> Store
     ensures { λ r. ⌜ r ≡ storeOf c ⌝ }
 {
     let kind = c.kind;
@@ -93,15 +93,15 @@ fn store_of(c: Kept) -> Store
     }
 }
 
-fn bit(b: bool) -> u8
-    ensures { λ r. ⌜ r ≡ bitOf b ⌝ }
+fn flag_bit(b: bool) -> u8
+    ensures { λ r. ⌜ r ≡ flagBit b ⌝ }
 {
     if b { 1 } else { 0 }
 }
 
 // The sprite flags as a byte.
 fn flag_byte(f: Flags) -> u8
-    ensures { λ r. ⌜ r ≡ bitOf (f .overflow) + 2 * bitOf (f .collision) ⌝ }
+    ensures { λ r. ⌜ r ≡ flagBit (f .overflow) + 2 * flagBit (f .collision) ⌝ }
 {
     if f.overflow {
         if f.collision { 3 } else { 1 }
@@ -118,7 +118,7 @@ pub fn record_of(t: Step) -> [u8; 32]
     let c = kept_of(store);
     let p = t.control.port;
     let d = t.control.dma;
-    let pending = bit(p.pending);
+    let pending = flag_bit(p.pending);
     let flags = flag_byte(t.control.flags);
     [
         VERSION,
@@ -213,7 +213,7 @@ fn control_of(bytes: &[u8]) -> Control
 pub fn step_of(bytes: &[u8]) -> Step
     ensures { λ r. ⌜ r ≡ stepOf (now (bytes .entry)) ⌝ }
 {
-    let kept = Kept {
+    let kept = KeptCell {
         kind: one_at(bytes, KEPT_KIND),
         place: two_at(bytes, PLACE),
         content: two_at(bytes, CONTENT),

@@ -21,8 +21,8 @@ half-small b column h = by-half (eqb (column % 2) 0) refl
 dot-of-requires : tie.Need-dot-of-requires
 dot-of-requires c κs =
     let known = c .before .before .before .before .shared-slice-known .given in
-    let place = rowPlace (c .before .block-name .result) (c .before .before .turned2 .result % 8) + c .before .before .before .turned .result % 8 / 2 in
-    omega (arith, c .pattern-pixel .ensures, half-small (getD (c .before .before .before .before .before .args .vram .now) place 0) (c .before .before .before .turned .result % 8) (omega (arith, known place)))
+    let place = rowPlace (c .before .block-name .result) (c .before .before .flipped2 .result % 8) + c .before .before .before .flipped .result % 8 / 2 in
+    omega (arith, c .pattern-pixel .ensures, half-small (getD (c .before .before .before .before .before .args .vram .now) place 0) (c .before .before .before .flipped .result % 8) (omega (arith, known place)))
 
 returns : tie.Need-returns
 unfolding blockDot

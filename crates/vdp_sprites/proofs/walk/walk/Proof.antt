@@ -100,22 +100,13 @@ met c =
     (λ w. subst (λ (k : List ℕ). Met (c .before) k (c .if1 .count)) (sym (w .1)) (subst (Met (c .before) _) (sym (w .2)) (passed (c .before) (w .0 .left))))
     (c .if1 .came)
 
-returns-2 : tie.Need-returns-2 Inv-loop μ-loop
-returns-2 c =
-    let j = c .before .before in
-    let m = met j in
-    let l = j .before .before .before .before .loop in (
-      joined-end (take (j .if1 .count) (j .if1 .kept)) (l .visits + 1) false ∙ sym (simp (sym (c .before .last .ensures) ∙ c .if3 .taken) at (sym (m .2))),
-      omega (arith, m .0, l .inv .2),
-    )
-
 loop-again : tie.Need-loop-again Inv-loop μ-loop
 loop-again c =
     let m = met (c .before .before) in
     (search needs, m .0, c .before .before .before .before .before .before .loop .inv .2, m .1, simp (sym (c .before .last .ensures) ∙ c .if3 .left) at (m .2))
 
-returns-3 : tie.Need-returns-3 Inv-loop μ-loop
-returns-3 c =
+returns-2 : tie.Need-returns-2 Inv-loop μ-loop
+returns-2 c =
     let l = c .before .loop in
     let a = c .before .before .before .before .before .args in
     let none : c .before .before .before .most-visits .result - l .visits ≡ 0 = omega (arith, c .loop-test .left) in (
@@ -123,6 +114,15 @@ returns-3 c =
           ∙ ap (λ (n : ℕ). joined (take (l .count) (l .kept)) (l .visits) (walkFrom (a .vram .now) (a .base) (a .wide) (a .line) n (c .before .before .most-on-line .result - l .count) (l .i))) (sym none)
           ∙ l .inv .4,
       omega (arith, l .inv .1, l .inv .2),
+    )
+
+returns-3 : tie.Need-returns-3 Inv-loop μ-loop
+returns-3 c =
+    let j = c .before .before in
+    let m = met j in
+    let l = j .before .before .before .before .loop in (
+      joined-end (take (j .if1 .count) (j .if1 .kept)) (l .visits + 1) false ∙ sym (simp (sym (c .before .last .ensures) ∙ c .if3 .taken) at (sym (m .2))),
+      omega (arith, m .0, l .inv .2),
     )
 
 pub walk-spec : {M : Type 1} → statement M
@@ -141,7 +141,7 @@ walk-spec =
     (λ c. search needs)
     (λ c. search needs)
     (λ c κs. search needs)
-    returns-2
     (λ c. search needs)
     loop-again
+    returns-2
     returns-3)

@@ -11,22 +11,24 @@ use Rattle.vdp_state.proofs.good.colours_good.Statement.{statement}
 use Rattle.vdp_state.proofs.good.colours_good.Tie as tie
 
 abbrev Inv-loop : tie.InvT-loop
-Inv-loop words ok₀ i₀ ok i = (i ≤ 64) × ((ok && all isColour (drop i words)) ≡ all isColour words)
+Inv-loop words ok₀ i₀ ok i = (i ≤ length words) × ((ok && all isColour (drop i words)) ≡ all isColour words)
 
 abbrev μ-loop : tie.MeasureT-loop
-μ-loop words ok₀ i₀ ok i = 64 - i
+μ-loop words ok₀ i₀ ok i = length words - i
 
 loop-again : tie.Need-loop-again Inv-loop μ-loop
 loop-again c =
-    let l = c .before .before .loop in
-    let words = c .before .before .before .args .t1 in
+    let a = c .before .before .before in
+    let l = a .loop in
+    let words = a .before .before .args .words .now in
     let h : l .i < length words = search needs in
     (search needs, all-turn isColour words (l .i) (l .ok) _ (ap (λ (k : ℕ). l .ok && eqb k (getD words (l .i) 0)) (c .colour-word .ensures)) h ∙ l .inv .1)
 
 returns : tie.Need-returns Inv-loop μ-loop
 returns c =
-    let l = c .before .loop in
-    let words = c .before .before .args .t1 in
+    let a = c .before in
+    let l = a .loop in
+    let words = a .before .before .args .words .now in
     let h : length words ≤ l .i = search needs in
     all-end isColour words (l .i) (l .ok) h ∙ l .inv .1
 

@@ -10,22 +10,24 @@ use Rattle.vdp_state.proofs.good.scrolls_good.Statement.{statement}
 use Rattle.vdp_state.proofs.good.scrolls_good.Tie as tie
 
 abbrev Inv-loop : tie.InvT-loop
-Inv-loop words ok₀ i₀ ok i = (i ≤ 40) × ((ok && all isScroll (drop i words)) ≡ all isScroll words)
+Inv-loop words ok₀ i₀ ok i = (i ≤ length words) × ((ok && all isScroll (drop i words)) ≡ all isScroll words)
 
 abbrev μ-loop : tie.MeasureT-loop
-μ-loop words ok₀ i₀ ok i = 40 - i
+μ-loop words ok₀ i₀ ok i = length words - i
 
 loop-again : tie.Need-loop-again Inv-loop μ-loop
 loop-again c =
-    let l = c .before .loop in
-    let words = c .before .before .args .t1 in
+    let a = c .before .before in
+    let l = a .loop in
+    let words = a .before .args .words .now in
     let h : l .i < length words = search needs in
     (search needs, all-turn isScroll words (l .i) (l .ok) _ refl h ∙ l .inv .1)
 
 returns : tie.Need-returns Inv-loop μ-loop
 returns c =
-    let l = c .before .loop in
-    let words = c .before .before .args .t1 in
+    let a = c .before in
+    let l = a .loop in
+    let words = a .before .args .words .now in
     let h : length words ≤ l .i = search needs in
     all-end isScroll words (l .i) (l .ok) h ∙ l .inv .1
 

@@ -2,8 +2,8 @@
 use Prim.Native.Nat.{_+_, _*_}
 use borrow.Author.Needs.{needs}
 use native.Mathlib.Omega.{arith}
-use Rattle.vdp_tape.proofs.Records.{one-byte, kind-fits, bit-fits, flags-fit}
-use Rattle.vdp_tape.specs.Record.{bit, keptOf}
+use Rattle.vdp_tape.proofs.Records.{one-byte, kind-fits, flag-bit-fits, flags-fit}
+use Rattle.vdp_tape.specs.Record.{flagBit, keptOf}
 use Rattle.vdp_tape.proofs.record.record_of.Statement.{statement}
 use Rattle.vdp_tape.proofs.record.record_of.Tie as tie
 
@@ -14,14 +14,14 @@ returns c =
     let k = t .control in
     simp (
       f .before .before .before .before .kept-of .ensures,
-      f .before .bit .ensures,
+      f .before .flag-bit .ensures,
       f .flag-byte .ensures,
       one-byte (keptOf (t .store) .kind) (kind-fits (t .store)),
       one-byte (k .port .code) (omega arith),
-      one-byte (bit (k .port .pending)) (bit-fits (k .port .pending) .0),
+      one-byte (flagBit (k .port .pending)) (flag-bit-fits (k .port .pending) .0),
       one-byte (k .dma .kind) (omega arith),
       one-byte (k .dma .fill) (omega arith),
-      one-byte (bit (k .flags .overflow) + 2 * bit (k .flags .collision)) (flags-fit (k .flags .overflow) (k .flags .collision) .fits),
+      one-byte (flagBit (k .flags .overflow) + 2 * flagBit (k .flags .collision)) (flags-fit (k .flags .overflow) (k .flags .collision) .fits),
     )
 
 pub record-of-spec : {M : Type 1} → statement M
