@@ -32,8 +32,11 @@ fn mix_columns(
     end: usize,
     pixels: &mut [u8],
 )
-    requires { ⌜ (0 < b .columns) × (0 < a .columns) × (from ≤ end) × (end ≤ length (now pixels)) × (length (now pixels) ≤ 320) ⌝ }
-    ensures { λ _. ⌜ now (pixels .exit) ≡ painted (λ x _. mixOf back (rowDot (now (vram .entry)) b x) (rowDot (now (vram .entry)) a x) (getD (now (dots .entry)) x 0)) from (end - from) (now (pixels .entry)) ⌝ }
+    requires { ⌜ (0 < b .columns) × (0 < a .columns) × (from ≤ end)
+        × (end ≤ length (now pixels)) × (length (now pixels) ≤ 320) ⌝ }
+    ensures { λ _. ⌜ now (pixels .exit)
+        ≡ painted (λ x _. mixOf back (rowDot (now (vram .entry)) b x) (rowDot (now (vram .entry)) a x) (getD (now (dots .entry)) x 0))
+        from (end - from) (now (pixels .entry)) ⌝ }
 {
     let mut x = from;
     while x < end {
@@ -51,7 +54,9 @@ fn mix_columns(
 // Writes the visible columns of a displayed line.
 pub(crate) fn draw_columns(s: State, vram: &[u8], line: u8, dots: &[u8], pixels: &mut [u8])
     requires { ⌜ length (now pixels) ≡ 320 ⌝ }
-    ensures { λ _. ⌜ now (pixels .exit) ≡ painted (λ x _. mixed (chip s (now (vram .entry))) line (now (dots .entry)) x) 0 (widthOf (isWide s)) (now (pixels .entry)) ⌝ }
+    ensures { λ _. ⌜ now (pixels .exit)
+        ≡ painted (λ x _. mixed (chip s (now (vram .entry))) line (now (dots .entry)) x)
+        0 (widthOf (isWide s)) (now (pixels .entry)) ⌝ }
 {
     let view = view_of(s, vram, line);
     let vsram = s.vsram;

@@ -1,7 +1,6 @@
 // What a line needs of the registers, computed once, and the rows that 16 columns of the screen show.
 ghost use mathlib.Core.Path.{_≡_};
 ghost use Prim.Native.Nat.{_≤_, _<_};
-ghost use lib.Dec.{ltb};
 ghost use Rattle.vdp_state.specs.State.{chip};
 ghost use Rattle.vdp_line.specs.Layer.{horizontal as horizontalOf};
 ghost use Rattle.vdp_line.specs.Plane.{side as sideOf};

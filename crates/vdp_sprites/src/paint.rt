@@ -1,14 +1,11 @@
 // What each kept sprite shows, and its dots on the columns of the screen (definition, Drawing).
 ghost use mathlib.Core.Path.{_≡_};
 ghost use Prim.Native.Nat.{_+_, _-_, _*_, _≤_, min};
-ghost use mathlib.Core.Bool.{false};
-ghost use lib.ListN.{length, take};
-ghost use mathlib.Core.List.{map};
-ghost use Rattle.vdp_draw.specs.Width.{widthOf};
+ghost use lib.ListN.{length};
 ghost use Rattle.vdp_sprites.specs.Behind.{under as underOf, behind, meets, behindAll, meetsAll};
 ghost use Rattle.vdp_sprites.specs.Column.{shownDot};
-ghost use Rattle.vdp_sprites.specs.Shown.{shownFrom, shown, columnsShown};
-ghost use Rattle.vdp_sprites.specs.Sprite.{spriteAt};
+ghost use Rattle.vdp_sprites.specs.Shown.{shown, columnsShown};
+ghost use Rattle.vdp_sprites.specs.Kept.{shownKept};
 use crate::sprite::Sprite;
 use crate::sprite::sprite_at;
 use crate::walk::KeptSprites;
@@ -41,7 +38,8 @@ fn under(old: u8, dot: u8) -> u8
 // Puts a sprite's leftmost columns behind the dots that stand there; whether a solid dot met another.
 fn paint(vram: &[u8], s: Sprite, columns: u16, line: u8, width: u32, dots: &mut [u8]) -> bool
     requires { ⌜ width ≤ length (now dots) ⌝ }
-    ensures { λ _. ⌜ now (dots .exit) ≡ behind (shownDot (now (vram .entry)) line (shown s columns)) width (now (dots .entry)) ⌝ }
+    ensures { λ _. ⌜ now (dots .exit)
+        ≡ behind (shownDot (now (vram .entry)) line (shown s columns)) width (now (dots .entry)) ⌝ }
     ensures { λ r. ⌜ r ≡ meets (shownDot (now (vram .entry)) line (shown s columns)) width (now (dots .entry)) ⌝ }
 {
     let row = less((line as u32) + 128, s.y as u32) as u16;
@@ -87,8 +85,9 @@ pub(crate) fn paint_kept(
     dots: &mut [u8],
 ) -> bool
     requires { ⌜ (w .count ≤ 20) × (width ≤ 320) × (width ≤ length (now dots)) ⌝ }
-    ensures { λ _. ⌜ now (dots .exit) ≡ behindAll (now (vram .entry)) line width (shownFrom width false (map (spriteAt (now (vram .entry)) base) (take (w .count) (w .kept)))) (now (dots .entry)) ⌝ }
-    ensures { λ r. ⌜ r ≡ meetsAll (now (vram .entry)) line width (shownFrom width false (map (spriteAt (now (vram .entry)) base) (take (w .count) (w .kept)))) (now (dots .entry)) ⌝ }
+    ensures { λ _. ⌜ now (dots .exit)
+        ≡ behindAll (now (vram .entry)) line width (shownKept (now (vram .entry)) base width w) (now (dots .entry)) ⌝ }
+    ensures { λ r. ⌜ r ≡ meetsAll (now (vram .entry)) line width (shownKept (now (vram .entry)) base width w) (now (dots .entry)) ⌝ }
 {
     let kept = w.kept;
     let count = w.count;

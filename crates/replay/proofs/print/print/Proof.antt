@@ -1,20 +1,29 @@
--- The part written is as long as `put_numbers` says.
+-- The measure is how many numbers are left.
+use Prim.Native.Nat.{_≤_, _-_}
 use borrow.Author.Needs.{needs}
-use lib.Seq.{length-take-le}
-use mathlib.Core.Path.{sym}
 use Rattle.replay.proofs.print.print.Statement.{statement}
 use Rattle.replay.proofs.print.print.Tie as tie
 
-slice-aggregate-write-all : tie.Need-slice-aggregate-write-all
-slice-aggregate-write-all c = sym (length-take-le _ _ (c .before .before .put-numbers .ensures))
+abbrev Inv-loop : tie.InvT-loop
+Inv-loop line n i₀ i = i ≤ n
+
+abbrev μ-loop : tie.MeasureT-loop
+μ-loop line n i₀ i = n - i
 
 pub print-spec : {M : Type 1} → statement M
 print-spec =
     tie.close
     (tie.spec
+    Inv-loop
+    μ-loop
+    (λ c κs. search needs)
+    (λ c. search needs)
+    (λ c. search needs)
+    (λ c. search needs)
     (λ c. search needs)
     (λ c κs. search needs)
     (λ c. search needs)
-    slice-aggregate-write-all
     (λ c κs. search needs)
+    (λ c. search needs)
+    (λ c. search needs)
     (λ c. search needs))
