@@ -1,4 +1,5 @@
 pub mod Dot
+pub mod Inside
 pub mod Painted
 pub mod Pattern
 pub mod Tabulate

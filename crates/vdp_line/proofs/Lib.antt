@@ -3,3 +3,5 @@ pub mod Groups
 pub mod Made
 pub mod Accepted
 pub mod Decided
+pub mod Inside
+pub mod PastEnd

@@ -44,12 +44,12 @@ rowOf p h v line =
 abbrev pub across : Row → ℕ → ℕ
 across r x = (x + r .shift) % (8 * r .columns)
 
--- "The cells of a table lie row by row, a word each"
+-- where the cell lies that column x shows: "The cells of a table lie row by row, a word each"
 abbrev pub cellPlace : Row → ℕ → ℕ
-cellPlace r column = r .base + 2 * (r .row * r .columns + column)
+cellPlace r x = r .base + 2 * (r .row * r .columns + across r x / 8)
 
 abbrev pub rowDot : List ℕ → Row → ℕ → ℕ
-rowDot vram r x = blockDot vram (wordAt vram (cellPlace r (across r x / 8))) 1 1 (r .line) (across r x % 8)
+rowDot vram r x = blockDot vram (wordAt vram (cellPlace r x)) 1 1 (r .line) (across r x % 8)
 
 -- below a limit, or with the other bit not below it
 abbrev pub side : Bool → Bool → Bool

@@ -1,3 +1,4 @@
 pub mod Columns
 pub mod Walked
 pub mod Painting
+pub mod Inside

@@ -1,4 +1,4 @@
--- A sprite of the table: definition, Drawing ("Sprite i is the 8 bytes at base + 8 x i"); notes s15.
+-- A sprite of the table: definition, Drawing; notes s15.
 use Prim.Native.Nat.{ℕ, _+_, _*_, _/_, _%_}
 use mathlib.Core.Bool.{Bool, _&&_}
 use mathlib.Core.List.{List}
@@ -21,9 +21,12 @@ spriteFrom vram place =
       x = wordAt vram (place + 6) % 512;
     }
 
--- sprite i of the table at a base
+-- "Sprite i is the 8 bytes at base + 8 x i"
+abbrev pub spritePlace : ℕ → ℕ → ℕ
+spritePlace base i = base + 8 * i
+
 abbrev pub spriteAt : List ℕ → ℕ → ℕ → Sprite
-spriteAt vram base i = spriteFrom vram (base + 8 * i)
+spriteAt vram base i = spriteFrom vram (spritePlace base i)
 
 -- a line of the screen crosses the sprite, which begins on "line Y - 128"
 abbrev pub onLine : Sprite → ℕ → Bool

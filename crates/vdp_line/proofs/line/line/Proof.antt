@@ -1,15 +1,13 @@
 -- Refused, displayed or blanked.
 use Prim.Native.Nat.{ℕ, _<_}
-use Rattle.vdp_line.proofs.Accepted.{accepted}
+use Rattle.vdp_line.proofs.Accepted.{Passed, accepted}
 use Rattle.vdp_line.proofs.Bounds.{height-small}
-use Rattle.vdp_line.specs.Layout.{height}
 use Rattle.vdp_line.specs.Line.{lineNumber, lineOutcome, LineOutcome, lineMade, line}
 use Rattle.vdp_state.specs.Answer.{refused}
 use Rattle.vdp_state.specs.State.{chip}
 use borrow.Author.Needs.{needs}
 use borrow.Author.Tests.{ne-eqb}
 use lib.Dec.{eqb}
-use lib.ListN.{length}
 use mathlib.Core.Bool.{cond}
 use mathlib.Core.Path.{_≡_, sym, ap, _∙_}
 use native.Mathlib.Omega.{arith}
@@ -28,14 +26,14 @@ module _ (c : tie.Else1) where
   zero : lineNumber (chip (start (c .before) .args .s) (start (c .before) .args .vram .now)) (start (c .before) .args .line) (start (c .before) .args .pixels .now) ≡ 0
   zero = sym (c .before .line-number .ensures) ∙ c .if1 .left
 
-  tested : (length (start (c .before) .args .pixels .now) ≡ 320) × (start (c .before) .args .line < height (start (c .before) .args .s))
+  tested : Passed (start (c .before) .args .s) (start (c .before) .args .line) (start (c .before) .args .pixels .now)
   tested = accepted (chip (start (c .before) .args .s) (start (c .before) .args .vram .now)) (start (c .before) .args .line) (start (c .before) .args .pixels .now) zero
 
   made : lineMade (chip (start (c .before) .args .s) (start (c .before) .args .vram .now)) (start (c .before) .args .line) (start (c .before) .args .pixels .now) ≡ whole (start (c .before))
   made = sym (simp zero)
 
   small : start (c .before) .args .line < 256
-  small = omega (arith, tested .1, height-small (start (c .before) .args .s))
+  small = omega (arith, tested .tall, height-small (start (c .before) .args .s))
 
 returns : tie.Need-returns
 returns c = let a = start (c .before) .args in
@@ -47,13 +45,13 @@ cast-shown-line : tie.Need-cast-shown-line
 cast-shown-line c = omega (arith, small (c .before .before))
 
 shown-line-requires : tie.Need-shown-line-requires
-shown-line-requires c κs = (sym (c .before .before .displayed .ensures) ∙ c .before .if2 .taken, tested (c .before .before .before) .0)
+shown-line-requires c κs = (sym (c .before .before .displayed .ensures) ∙ c .before .if2 .taken, tested (c .before .before .before) .size)
 
 cast-blank-line : tie.Need-cast-blank-line
 cast-blank-line c = omega (arith, small (c .before .before))
 
 blank-line-requires : tie.Need-blank-line-requires
-blank-line-requires c κs = (sym (c .before .before .displayed .ensures) ∙ c .before .if2 .left, tested (c .before .before .before) .0)
+blank-line-requires c κs = (sym (c .before .before .displayed .ensures) ∙ c .before .if2 .left, tested (c .before .before .before) .size)
 
 returns-2 : tie.Need-returns-2
 returns-2 c = c .before .before .shown-line .ensures ∙ made (c .before .before .before .before .before .before)
