@@ -22,7 +22,8 @@
 extern "C" {
 #endif
 
-/* The numbers a call may answer. Where several would do, a call answers the first of 1, 2, 3, 10, 8, 5, 4, 9, 7, 6. */
+/* The numbers a call may answer; 9 is never given. Where several would do, a call answers the first of 1, 2, 3, 10, 8,
+ * 5, 4, 7, 6. */
 enum {
     KUTHBAREEN_DONE = 0,            /* the call was made */
     KUTHBAREEN_BAD_STATE = 1,       /* the state is not GOOD */
@@ -33,7 +34,6 @@ enum {
     KUTHBAREEN_TAPE_FULL = 6,       /* fewer free records than steps to be made */
     KUTHBAREEN_SOURCE_NOT_LENT = 7, /* a word to be moved lies in no lent memory */
     KUTHBAREEN_BAD_RECORD = 8,      /* a record of the tape breaks the layout */
-    KUTHBAREEN_TABLE_PAST_END = 9,  /* a table read in drawing would pass FFFFh */
     KUTHBAREEN_NOTHING_THERE = 10   /* a step back of more than the count */
 };
 

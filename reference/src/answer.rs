@@ -1,4 +1,4 @@
-//! The numbers a call may answer (definition, Numbers a call may answer).
+//! The numbers a call may answer (definition, Numbers a call may answer); 9 is not used.
 
 pub type Answer = u8;
 
@@ -11,7 +11,6 @@ pub const NO_SUCH_PLACE: Answer = 5;
 pub const TAPE_FULL: Answer = 6;
 pub const SOURCE_NOT_LENT: Answer = 7;
 pub const BAD_RECORD: Answer = 8;
-pub const TABLE_PAST_END: Answer = 9;
 pub const NOTHING_THERE: Answer = 10;
 
 /// An accepted call gives its result, a refused one its number.

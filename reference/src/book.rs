@@ -89,8 +89,7 @@ impl Book {
             Call::StepBack(steps) => need(*steps as usize <= self.pages.len(), NOTHING_THERE),
             Call::Line { line, .. } => {
                 need(*line < draw::height(state), NO_SUCH_PLACE)?;
-                need(draw::not_modelled(state).is_none(), NOT_MODELLED)?;
-                draw::picture(state, &self.present.vram, *line).map(|_| ())
+                need(draw::not_modelled(state).is_none(), NOT_MODELLED)
             }
             Call::Run { memories, budget } => {
                 let units = dma::units(state, *budget);
@@ -152,10 +151,9 @@ fn step(page: &mut Page, call: &Call) {
         Call::Run { memories, .. } => dma::unit(state, vram, *memories),
         Call::NewFrame => ports::new_frame(state),
         Call::Line { line, .. } => {
-            if let Ok(picture) = draw::picture(state, vram, *line) {
-                state.overflow |= picture.overflow;
-                state.collision |= picture.collision;
-            }
+            let picture = draw::picture(state, vram, *line);
+            state.overflow |= picture.overflow;
+            state.collision |= picture.collision;
         }
         Call::StepBack(_) => (),
     }

@@ -140,9 +140,9 @@ pub fn draw_line(
     count_fits(&tape)?;
     need(line < draw::height(state), NO_SUCH_PLACE)?;
     need(draw::not_modelled(state).is_none(), NOT_MODELLED)?;
-    let picture = draw::picture(state, vram, line)?;
     has_room(&tape, 1)?;
     let before = state.clone();
+    let picture = draw::picture(state, vram, line);
     for (place, index) in pixels.iter_mut().zip(&picture.pixels) {
         *place = *index;
     }

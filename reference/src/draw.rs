@@ -1,7 +1,6 @@
 //! Drawing a line: what is not modelled, and the layers put together
 //! (definition, Drawing; notes s14, s17).
 
-use crate::answer::Answer;
 use crate::planes::{self, horizontal_scroll, plane_dot, window_dot, Dot, Plane, View};
 use crate::sprites;
 use crate::state::{State, Vram};
@@ -50,10 +49,10 @@ fn too_many_cells(state: &State) -> bool {
 }
 
 /// A line that is inside the height and modelled.
-pub fn picture(state: &State, vram: &Vram, line: u32) -> Result<Picture, Answer> {
+pub fn picture(state: &State, vram: &Vram, line: u32) -> Picture {
     let view = View { state, vram, line: line as usize };
     if state.registers[1] & 0x40 == 0 {
-        Ok(blank(&view))
+        blank(&view)
     } else {
         shown(&view)
     }
@@ -73,22 +72,22 @@ fn blank(view: &View) -> Picture {
     }
 }
 
-fn shown(view: &View) -> Result<Picture, Answer> {
-    let walk = sprites::walk(view)?;
+fn shown(view: &View) -> Picture {
+    let walk = sprites::walk(view);
     let (sprite_dots, collision) = sprites::layer(view, &walk);
-    let scroll_a = horizontal_scroll(view, Plane::A)?;
-    let scroll_b = horizontal_scroll(view, Plane::B)?;
+    let scroll_a = horizontal_scroll(view, Plane::A);
+    let scroll_b = horizontal_scroll(view, Plane::B);
     let mut pixels = Vec::with_capacity(view.width());
     for (x, sprite) in sprite_dots.iter().enumerate() {
         let a = if planes::window_here(view, x) {
-            window_dot(view, x)?
+            window_dot(view, x)
         } else {
-            plane_dot(view, Plane::A, scroll_a, x)?
+            plane_dot(view, Plane::A, scroll_a, x)
         };
-        let b = plane_dot(view, Plane::B, scroll_b, x)?;
+        let b = plane_dot(view, Plane::B, scroll_b, x);
         pixels.push(front(*sprite, a, b).unwrap_or(backdrop(view.state)));
     }
-    Ok(Picture { pixels, visits: walk.visits, overflow: walk.overflow, collision })
+    Picture { pixels, visits: walk.visits, overflow: walk.overflow, collision }
 }
 
 /// The frontmost solid pixel: high sprites, A, B, then low sprites, A, B.

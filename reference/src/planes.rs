@@ -1,6 +1,5 @@
 //! The screen's size, the two planes and the window (definition, Drawing; notes s12, s13, s17).
 
-use crate::answer::{Answer, TABLE_PAST_END};
 use crate::pattern;
 use crate::state::{State, Vram};
 
@@ -69,15 +68,14 @@ impl View<'_> {
         usize::from(self.state.registers[register] & mask) << shift
     }
 
-    /// A word of a table; a table may not pass FFFFh.
-    pub fn word(&self, at: usize) -> Result<u16, Answer> {
-        let upper = self.byte(at)?;
-        let lower = self.byte(at + 1)?;
-        Ok(u16::from_be_bytes([upper, lower]))
+    /// A word of a table.
+    pub fn word(&self, at: usize) -> u16 {
+        u16::from_be_bytes([self.byte(at), self.byte(at + 1)])
     }
 
-    pub fn byte(&self, at: usize) -> Result<u8, Answer> {
-        self.vram.get(at).copied().ok_or(TABLE_PAST_END)
+    /// A byte of a table; no table passes FFFFh, so a place above it stops the program.
+    pub fn byte(&self, at: usize) -> u8 {
+        self.vram[at]
     }
 }
 
@@ -115,13 +113,13 @@ pub fn scroll_line(state: &State, line: usize) -> usize {
 }
 
 /// The ten bits of horizontal scroll for this line.
-pub fn horizontal_scroll(view: &View, plane: Plane) -> Result<usize, Answer> {
+pub fn horizontal_scroll(view: &View, plane: Plane) -> usize {
     let entry = view.base(13, 0x3F, 10) + 4 * scroll_line(view.state, view.line);
     let word = match plane {
-        Plane::A => view.word(entry)?,
-        Plane::B => view.word(entry + 2)?,
+        Plane::A => view.word(entry),
+        Plane::B => view.word(entry + 2),
     };
-    Ok(usize::from(word & 0x3FF))
+    usize::from(word & 0x3FF)
 }
 
 /// One scroll word for the whole plane, or one for each two cells of the screen.
@@ -135,7 +133,7 @@ pub fn vertical_scroll(view: &View, plane: Plane, x: usize) -> usize {
 }
 
 /// A pixel of plane A or B, scrolled; `h` is the plane's horizontal scroll.
-pub fn plane_dot(view: &View, plane: Plane, h: usize, x: usize) -> Result<Dot, Answer> {
+pub fn plane_dot(view: &View, plane: Plane, h: usize, x: usize) -> Dot {
     let (cells_wide, cells_high) = plane_size(view.state).unwrap_or((32, 32));
     let base = match plane {
         Plane::A => view.base(2, 0x38, 10),
@@ -148,22 +146,16 @@ pub fn plane_dot(view: &View, plane: Plane, h: usize, x: usize) -> Result<Dot, A
 }
 
 /// The window's table is unscrolled, 64 or 32 cells wide.
-pub fn window_dot(view: &View, x: usize) -> Result<Dot, Answer> {
+pub fn window_dot(view: &View, x: usize) -> Dot {
     let (mask, cells_wide) = if view.wide() { (0x3C, 64) } else { (0x3E, 32) };
     table_dot(view, view.base(3, mask, 10), cells_wide, x, view.line)
 }
 
 /// A pixel of a name table, `across` and `down` counted in pixels.
-fn table_dot(
-    view: &View,
-    base: usize,
-    cells_wide: usize,
-    across: usize,
-    down: usize,
-) -> Result<Dot, Answer> {
+fn table_dot(view: &View, base: usize, cells_wide: usize, across: usize, down: usize) -> Dot {
     let at = base + 2 * (down / 8 * cells_wide + across / 8);
-    let cell = take_apart(view.word(at)?);
-    Ok(cell_dot(view.vram, cell, (down % 8) as u16, (across % 8) as u16))
+    let cell = take_apart(view.word(at));
+    cell_dot(view.vram, cell, (down % 8) as u16, (across % 8) as u16)
 }
 
 /// A pixel of one cell, flipped as the cell asks.

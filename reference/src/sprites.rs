@@ -1,6 +1,5 @@
 //! The sprite walk and the sprites' pixels on one line (definition, Drawing; notes s15).
 
-use crate::answer::Answer;
 use crate::pattern;
 use crate::planes::{take_apart, CellWord, Dot, View};
 
@@ -48,18 +47,18 @@ pub fn line_limit(view: &View) -> usize {
     }
 }
 
-pub fn entry(view: &View, number: usize) -> Result<Sprite, Answer> {
+pub fn entry(view: &View, number: usize) -> Sprite {
     let mask = if view.wide() { 0x7E } else { 0x7F };
     let at = view.base(5, mask, 9) + 8 * number;
-    let size = usize::from(view.byte(at + 2)?);
-    Ok(Sprite {
-        y: usize::from(view.word(at)? & 0x1FF),
+    let size = usize::from(view.byte(at + 2));
+    Sprite {
+        y: usize::from(view.word(at) & 0x1FF),
         cells_wide: 1 + (size >> 2) % 4,
         cells_high: 1 + size % 4,
-        link: usize::from(view.byte(at + 3)? & 0x7F),
-        cell: take_apart(view.word(at + 4)?),
-        x: usize::from(view.word(at + 6)? & 0x1FF),
-    })
+        link: usize::from(view.byte(at + 3) & 0x7F),
+        cell: take_apart(view.word(at + 4)),
+        x: usize::from(view.word(at + 6) & 0x1FF),
+    }
 }
 
 /// Both sides are 128 more than on the screen, so nothing goes below zero.
@@ -69,14 +68,14 @@ pub fn on_line(sprite: &Sprite, line: usize) -> bool {
 }
 
 /// Follows the links. In a visit: count it, the line and its limit, the visits, the link.
-pub fn walk(view: &View) -> Result<Walk, Answer> {
+pub fn walk(view: &View) -> Walk {
     let mut walk = Walk::default();
     let mut budget = view.width();
     let mut masked = false;
     let mut number = 0;
     loop {
         walk.visits += 1;
-        let sprite = entry(view, number)?;
+        let sprite = entry(view, number);
         if on_line(&sprite, view.line) {
             if walk.kept.len() == line_limit(view) {
                 walk.overflow = true;
@@ -94,7 +93,7 @@ pub fn walk(view: &View) -> Result<Walk, Answer> {
         }
         number = sprite.link;
     }
-    Ok(walk)
+    walk
 }
 
 /// The sprite layer of one line, and whether two shown solid pixels met.

@@ -57,9 +57,9 @@ impl Bench {
         bench
     }
 
-    /// Writes a sprite of the pattern name 1.
+    /// Writes a sprite to the table that register 5 names.
     fn sprite(&mut self, number: usize, y: u16, size: u8, link: u8, cell: u16, x: u16) {
-        let at = 0x8000 + 8 * number;
+        let at = 512 * usize::from(self.state().registers[5]) + 8 * number;
         let (y, cell, x) = (y.to_be_bytes(), cell.to_be_bytes(), x.to_be_bytes());
         let bytes = [y[0], y[1], size, link, cell[0], cell[1], x[0], x[1]];
         self.vram()[at..at + 8].copy_from_slice(&bytes);
@@ -319,6 +319,66 @@ fn scrolls_move_a_plane_right_and_up() {
     assert_eq!(bench.line(8), Ok(1));
     let expected = [0x11, 0x12, 0x13, 0x14, 0, 0, 0, 0];
     assert_eq!(bench.0.pixels.bytes[12..20], expected);
+}
+
+/// Line 7 shows row (7 + 504) mod 512 = 511 of plane A, and column 0 shows column (0 - 8) mod 512 =
+/// 504 of it. So columns 0 to 7 show row 7 of the cell in column 63 of row 63, which is the word at
+/// E000h + 2 x (63 x 64 + 63) = FFFEh. Row 7 of pattern 2,047 is at 32 x 2,047 + 4 x 7 = FFFCh, and
+/// that word is its right half.
+#[test]
+fn the_last_cell_of_a_plane_shows_the_last_row_of_the_last_pattern() {
+    let mut bench = Bench::screen();
+    bench.control(&[0x9011, 0x8D3F, 0x8730]);
+    bench.vram()[0xFC00..0xFC02].copy_from_slice(&[0, 8]);
+    bench.state().scrolls[0] = 504;
+    bench.vram()[0xFFFC..=0xFFFF].copy_from_slice(&[0x12, 0x34, 0x07, 0xFF]);
+    assert_eq!(bench.line(7), Ok(1));
+    let expected = [[1, 2, 3, 4, 0x30, 7, 15, 15].as_slice(), &[0x30; 312]].concat();
+    assert_eq!(bench.0.pixels.bytes[..320], expected);
+}
+
+/// Sprite 63 is at FE00h + 8 x 63 = FFF8h, its X at FFFEh.
+#[test]
+fn at_256_the_last_sprite_ends_at_ffffh() {
+    let mut bench = Bench::screen();
+    bench.control(&[0x8C00, 0x857F]);
+    bench.vram()[32..36].copy_from_slice(&[0x12, 0x34, 0x56, 0x78]);
+    bench.sprite(0, 0, 0, 63, 1, 128);
+    bench.sprite(63, 128, 0, 0, 0x2001, 128 + 248);
+    assert_eq!(bench.vram()[0xFFFE..=0xFFFF], [0x01, 0x78]);
+    assert_eq!(bench.line(0), Ok(2));
+    let shown = [0x11, 0x12, 0x13, 0x14, 0x15, 0x16, 0x17, 0x18];
+    assert_eq!(bench.0.pixels.bytes[..256], [[0; 248].as_slice(), &shown].concat());
+}
+
+/// Line 239 shows row 29 of the window. The last cell on it is at F000h + 2 x (29 x 64 + 39) = FECEh
+/// at 320, where A11 is taken as 0, and at F800h + 2 x (29 x 32 + 31) = FF7Eh at 256.
+#[test]
+fn the_window_at_its_highest_base_is_drawn_to_line_239() {
+    for (mode, at, width) in [(0x8C81, 0xFECE, 320), (0x8C00, 0xFF7E, 256)] {
+        let mut bench = Bench::screen();
+        bench.control(&[mode, 0x814C, 0x833E, 0x9280]);
+        bench.pattern(1, 6);
+        bench.vram()[at + 1] = 1;
+        assert_eq!(bench.line(239), Ok(1));
+        assert_eq!(bench.0.pixels.bytes[..width], [vec![0; width - 8], vec![6; 8]].concat());
+    }
+}
+
+/// The entry of line 239 is at FC00h + 4 x 239 = FFBCh. That line shows row 7 of the cells in row
+/// 29, which begin at base + 2 x 29 x 32 = base + 740h.
+#[test]
+fn the_last_entry_of_a_scroll_table_at_fc00h_is_read() {
+    let mut bench = Bench::screen();
+    bench.control(&[0x814C, 0x8B03, 0x8D3F]);
+    bench.vram()[60..64].copy_from_slice(&[0x12, 0x34, 0x56, 0x78]);
+    bench.vram()[0xE740..0xE742].copy_from_slice(&[0x00, 0x01]);
+    bench.vram()[0xC740..0xC742].copy_from_slice(&[0x20, 0x01]);
+    bench.vram()[0xFFBC..0xFFC0].copy_from_slice(&[0, 2, 0, 12]);
+    assert_eq!(bench.line(239), Ok(1));
+    let a = [0, 0, 1, 2, 3, 4, 5, 6, 7, 8];
+    let b = [0, 0, 0x11, 0x12, 0x13, 0x14, 0x15, 0x16, 0x17, 0x18];
+    assert_eq!(bench.0.pixels.bytes[..20], [a, b].concat());
 }
 
 #[test]

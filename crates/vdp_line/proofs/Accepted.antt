@@ -12,17 +12,17 @@ use Rattle.vdp_state.specs.Good.{good}
 use Rattle.vdp_state.specs.State.{Chip}
 use Rattle.vdp_state.proofs.Bools.{by-cases, or-true}
 use Rattle.vdp_line.specs.Layout.{height}
-use Rattle.vdp_line.specs.Line.{planeCells, notModelled, lineNumber}
+use Rattle.vdp_line.specs.Line.{planeCells, mostCells, notModelled, lineNumber}
 
 pub record Passed (s : State) (n : ℕ) (pixels : List ℕ) : Type 0 where
   pub size : length pixels ≡ 320
   pub tall : n < height s
-  pub few : planeCells s ≤ 4096
+  pub few : planeCells s ≤ mostCells
 
 -- the last of the conditions for 4
-pub few-cells : (s : State) → notModelled s .holds ≡ false → planeCells s ≤ 4096
+few-cells : (s : State) → notModelled s .holds ≡ false → planeCells s ≤ mostCells
 few-cells s e =
-    by-cases (ltb 4096 (planeCells s)) (λ over. absurd (true≢false (simp (over, or-true) at e))) (λ within. ltb-false 4096 (planeCells s) within)
+    by-cases (ltb mostCells (planeCells s)) (λ over. absurd (true≢false (simp (over, or-true) at e))) (λ within. ltb-false mostCells (planeCells s) within)
 
 module _ (c : Chip) (n : ℕ) (pixels : List ℕ) where
   by-tests : (g : Bool) → good (c .state) ≡ g → (v : Bool) → eqb (length (c .vram)) 65536 ≡ v → (p : Bool) → eqb (length pixels) 320 ≡ p → (h : Bool) → leb (height (c .state)) n ≡ h

@@ -1,5 +1,5 @@
 -- Bounds of what the layout gives, for sums that must fit.
-use Prim.Native.Nat.{ℕ, _+_, _*_, _%_, _<_, _≤_}
+use Prim.Native.Nat.{ℕ, _*_, _%_, _<_, _≤_}
 use mathlib.Core.Bool.{Bool, true, false}
 use mathlib.Core.Path.{_≡_, refl}
 use native.Mathlib.Nat.{mod-lt, mul-le-mul}
@@ -7,8 +7,7 @@ use native.Mathlib.Omega.{arith}
 use lib.Dec.{eqb}
 use Rattle.vdp_state.specs.declared.state.State.{State}
 use Rattle.vdp_draw.specs.Width.{widthOf}
-use Rattle.vdp_line.specs.Layout.{scrollLine, cells, codeAcross, codeDown, bit, height}
-use Rattle.vdp_line.specs.Line.{planeCells}
+use Rattle.vdp_line.specs.Layout.{scrollLine, cells, bit, height}
 
 pub scroll-line-small : (mode line : ℕ) → scrollLine mode line ≤ line
 scroll-line-small mode line = by-mode (eqb mode 0) refl (eqb mode 1) refl (eqb mode 2) refl
@@ -34,9 +33,6 @@ pixel-small n cells h = mod-lt n {m = 8 * cells} (omega arith)
 -- a product of two bytes
 pub product-small : (a b : ℕ) → a < 256 → b < 256 → a * b ≤ 255 * 255
 product-small a b p q = mul-le-mul {n₂ = 255} {m₂ = 255} (omega arith) (omega arith)
-
-pub plane-cells-small : (s : State) → planeCells s ≤ 128 * 128
-plane-cells-small s = mul-le-mul (cells-range (codeAcross s) .1) (cells-range (codeDown s) .1)
 
 pub height-small : (s : State) → height s ≤ 240
 height-small s = by-bit (bit s 1 3) refl

@@ -4,4 +4,3 @@ pub mod Made
 pub mod Accepted
 pub mod Decided
 pub mod Inside
-pub mod PastEnd

@@ -1,6 +1,6 @@
 -- A line: definition, Drawing and Numbers a call may answer.
-use Prim.Native.Nat.{ℕ, _+_, _*_, _/_}
-use mathlib.Core.Bool.{Bool, true, false, cond, not, _&&_, _||_, Bool·beq}
+use Prim.Native.Nat.{ℕ, _*_}
+use mathlib.Core.Bool.{Bool, cond, not, _||_, Bool·beq}
 use mathlib.Core.List.{List, [], _∷_, _++_}
 use lib.Dec.{eqb, leb, ltb}
 use lib.ListN.{length, getD, drop}
@@ -17,11 +17,9 @@ use Rattle.vdp_draw.specs.Tabulate.{tabulate}
 use Rattle.vdp_draw.specs.Width.{widthOf}
 use Rattle.vdp_sprites.specs.declared.sprite_line.SpriteLine.{SpriteLine}
 use Rattle.vdp_sprites.specs.SpriteLine.{spriteLine}
-use Rattle.vdp_sprites.specs.Walk.{mostVisits}
 use Rattle.vdp_line.specs.Layer.{dotA, dotB}
-use Rattle.vdp_line.specs.Layout.{bit, wide, height, displayed, backdrop, baseA, baseB, baseWindow, baseSprites, codeAcross, codeDown, cells, scrollPlace}
+use Rattle.vdp_line.specs.Layout.{bit, wide, height, displayed, backdrop, baseSprites, codeAcross, codeDown, cells}
 use Rattle.vdp_line.specs.Mix.{mix}
-use Rattle.vdp_line.specs.Plane.{windowColumns}
 
 -- 2: "the pixel buffer is not 320 bytes long"
 abbrev pub badPixels : List ℕ → Test
@@ -31,8 +29,12 @@ badPixels pixels = gives 2 (not (eqb (length pixels) 320))
 abbrev pub noLine : State → ℕ → Test
 noLine s line = gives 5 (leb (height s) line)
 
+-- the cells of a plane, and the most that are modelled
 abbrev pub planeCells : State → ℕ
 planeCells s = cells (codeAcross s) * cells (codeDown s)
+
+abbrev pub mostCells : ℕ
+mostCells = 4096
 
 -- 4: "register 0 bit 0 or bit 3 is set", "register 1 bit 7 or bit 0 is set, or its bit 2 is clear", "register 12 bits 7
 -- and 0 differ, or one of its bits 3-1 is set", "register 16 has the code 2 for the width or the height of the planes"
@@ -42,22 +44,11 @@ notModelled s =
     gives 4
     (bit s 0 0 || bit s 0 3 || bit s 1 7 || bit s 1 0 || not (bit s 1 2) || not (Bool·beq (bit s 12 7) (bit s 12 0))
     || bit s 12 3 || bit s 12 2 || bit s 12 1 || eqb (codeAcross s) 2 || eqb (codeDown s) 2
-    || ltb 4096 (planeCells s))
-
--- 9: "a table that the line reads ends past FFFFh": "planes A and B with all their cells, that of the window up to the
--- row of this line, that of the sprites with 80 (64) entries, and this line's entry of the horizontal scroll table"
-abbrev pub tablePastEnd : State → ℕ → Test
-tablePastEnd s line =
-    gives 9
-    (ltb 65536 (baseA s + 2 * planeCells s)
-    || ltb 65536 (baseB s + 2 * planeCells s)
-    || ltb 65536 (baseWindow s + 2 * (windowColumns s * (line / 8 + 1)))
-    || ltb 65536 (baseSprites s + 8 * mostVisits (wide s)) || ltb 65536 (scrollPlace s line + 4))
+    || ltb mostCells (planeCells s))
 
 abbrev pub lineTests : Chip → ℕ → List ℕ → List Test
 lineTests c line pixels =
-    badState (c .state) ∷ badVram (c .vram) ∷ badPixels pixels ∷ noLine (c .state) line ∷ notModelled (c .state)
-    ∷ tablePastEnd (c .state) line ∷ []
+    badState (c .state) ∷ badVram (c .vram) ∷ badPixels pixels ∷ noLine (c .state) line ∷ notModelled (c .state) ∷ []
 
 abbrev pub lineNumber : Chip → ℕ → List ℕ → ℕ
 lineNumber c line pixels = first (lineTests c line pixels)

@@ -2,27 +2,18 @@
 ghost use mathlib.Core.Path.{_≡_};
 ghost use Prim.Native.Nat.{_<_};
 ghost use Rattle.vdp_state.specs.State.{chip};
-ghost use Rattle.vdp_line.specs.Line.{planeCells, notModelled, tablePastEnd, lineNumber};
-use crate::layout::base_a;
-use crate::layout::base_b;
-use crate::layout::base_sprites;
-use crate::layout::base_window;
+ghost use Rattle.vdp_line.specs.Line.{planeCells, notModelled, lineNumber};
 use crate::layout::bit;
 use crate::layout::cells;
 use crate::layout::code_across;
 use crate::layout::code_down;
 use crate::layout::height;
-use crate::layout::scroll_place;
-use crate::layout::wide;
-use crate::plane::window_columns;
 use vdp_ports::refusal::VRAM_SIZE;
-use vdp_sprites::walk::most_visits;
 use vdp_state::answer::BAD_BUFFER;
 use vdp_state::answer::BAD_STATE;
 use vdp_state::answer::DONE;
 use vdp_state::answer::NO_SUCH_PLACE;
 use vdp_state::answer::NOT_MODELLED;
-use vdp_state::answer::TABLE_PAST_END;
 use vdp_state::good::good;
 use vdp_state::state::State;
 
@@ -56,19 +47,6 @@ fn not_modelled(s: State) -> bool
         | (4096 < plane_cells(s))
 }
 
-// Whether a table that the line reads ends past FFFFh.
-fn table_past_end(s: State, line: u8) -> bool
-    ensures { λ r. ⌜ r ≡ tablePastEnd s line .holds ⌝ }
-{
-    let plane = 2 * plane_cells(s);
-    let rows = (line / 8 + 1) as u32;
-    (65536 < (base_a(s) as u32) + plane)
-        | (65536 < (base_b(s) as u32) + plane)
-        | (65536 < (base_window(s) as u32) + 2 * ((window_columns(s) as u32) * rows))
-        | (65536 < (base_sprites(s) as u32) + 8 * (most_visits(wide(s)) as u32))
-        | (65536 < scroll_place(s, line) + 4)
-}
-
 // The number that a line answers.
 pub fn line_number(s: State, vram: &[u8], line: u32, pixels: &[u8]) -> u8
     ensures { λ r. ⌜ r ≡ lineNumber (chip s (now (vram .entry))) line (now (pixels .entry)) ⌝ }
@@ -85,12 +63,5 @@ pub fn line_number(s: State, vram: &[u8], line: u32, pixels: &[u8]) -> u8
     if height(s) <= line {
         return NO_SUCH_PLACE;
     }
-    if not_modelled(s) {
-        return NOT_MODELLED;
-    }
-    if table_past_end(s, line as u8) {
-        TABLE_PAST_END
-    } else {
-        DONE
-    }
+    if not_modelled(s) { NOT_MODELLED } else { DONE }
 }

@@ -30,8 +30,11 @@ abbrev pub keep : ℕ → Walk → Walk
 keep i w = walkOf (i ∷ w .kept) (w .visits) (w .overflow)
 
 -- "It ends at a link of 0, and at a link that is not below 80 (64)."
+abbrev pub endsAt : Bool → ℕ → Bool
+endsAt wide link = eqb link 0 || leb (mostVisits wide) link
+
 abbrev pub onward : Bool → Sprite → Walk → Walk
-onward wide s w = cond (eqb (s .link) 0 || leb (mostVisits wide) (s .link)) (walkOf [] 0 false) w
+onward wide s w = cond (endsAt wide (s .link)) (walkOf [] 0 false) w
 
 -- from sprite i on, with so many visits left and room on the line for so many more: "If the sprite is on the line and
 -- 20 (16) have been kept, the walk ends here with overflow.", and that visit is counted

@@ -1,9 +1,7 @@
 // The walk over the sprites of a line (definition, Drawing; notes s15).
 ghost use mathlib.Core.Path.{_≡_};
-ghost use mathlib.Core.Bool.{_||_};
 ghost use Prim.Native.Nat.{_≤_};
-ghost use lib.Dec.{eqb, leb};
-ghost use Rattle.vdp_sprites.specs.Walk.{mostVisits, mostOnLine, walk as walkOf};
+ghost use Rattle.vdp_sprites.specs.Walk.{mostVisits, mostOnLine, endsAt, walk as walkOf};
 ghost use Rattle.vdp_sprites.specs.Kept.{walked};
 use crate::sprite::on_line;
 use crate::sprite::sprite_at;
@@ -16,7 +14,7 @@ pub(crate) struct KeptSprites {
     pub overflow: bool,
 }
 
-pub fn most_visits(wide: bool) -> u8
+fn most_visits(wide: bool) -> u8
     ensures { λ r. ⌜ r ≡ mostVisits wide ⌝ }
 {
     if wide { 80 } else { 64 }
@@ -30,7 +28,7 @@ fn most_on_line(wide: bool) -> usize
 
 // Whether the walk ends at this link.
 fn last(wide: bool, link: u8) -> bool
-    ensures { λ r. ⌜ r ≡ (eqb link 0 || leb (mostVisits wide) link) ⌝ }
+    ensures { λ r. ⌜ r ≡ endsAt wide link ⌝ }
 {
     (link == 0) | (most_visits(wide) <= link)
 }

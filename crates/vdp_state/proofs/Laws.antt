@@ -3,12 +3,13 @@
 --     undone             undoing a step after performing it gives back the state and every VRAM byte
 --     performed-good     a step in range, performed on a good chip, leaves a good chip
 --     undoing-good       the step that undoes a step in range is in range
+--     nine-unused        no call answers 9
 use Prim.Native.Nat.{ℕ, zero, suc, _+_, _/_, _%_, _<_}
 use mathlib.Core.Path.{_≡_, refl, ap, _∙_}
-use mathlib.Core.Bool.{Bool, true, _&&_}
+use mathlib.Core.Bool.{Bool, true, not, _&&_}
 use mathlib.Core.List.{List, [], _∷_}
 use native.Mathlib.Omega.{arith}
-use borrow.Author.Tests.{lt-ltb, ltb-true}
+use borrow.Author.Tests.{lt-ltb, ltb-true, eqb-false, not-true}
 use lib.Dec.{ltb, eqb}
 use lib.ListN.{length, getD, set, length-set}
 use lib.Seq.{set-set, set-comm, set-getD}
@@ -17,12 +18,13 @@ use Rattle.vdp_state.specs.declared.state.State.{State}
 use Rattle.vdp_state.specs.declared.state.Step.{Step}
 use Rattle.vdp_state.specs.declared.state.Store.{Store}
 use Rattle.vdp_state.specs.declared.state.Store.the-variants.{Nothing, Vram, Cram, Vsram, Register}
+use Rattle.vdp_state.specs.Answer.{order, Test, holdsAt, firstOf, NineUnused}
 use Rattle.vdp_state.specs.Cell.{wordAt, putWord, perform, present, undoing}
 use Rattle.vdp_state.specs.Fresh.{fresh}
 use Rattle.vdp_state.specs.Good.{all, isColour, isScroll, goodControl, good}
 use Rattle.vdp_state.specs.Range.{AllBytes, GoodControl, GoodChip, goodStore, GoodStep}
 use Rattle.vdp_state.specs.State.{Chip, chip}
-use Rattle.vdp_state.proofs.Bools.{both, both-left, both-right}
+use Rattle.vdp_state.proofs.Bools.{by-cond, both, both-left, both-right}
 
 pub fresh-good : (pal : Bool) → good (fresh pal) ≡ true
 unfolding good fresh Rattle.vdp_state.specs.Colour.colourWord
@@ -152,3 +154,14 @@ undoing-good c t g h = record { control = g .control; store = present-good c (t 
 abbrev pub StepsGood : (Chip → Step) → ℕ → Chip → Type 0
 StepsGood step zero c = Unit {0}
 StepsGood step (suc n) c = GoodStep (step c) × StepsGood step n (perform c (step c))
+
+-- ---- a number that is not in the order is never answered
+absent : (n : ℕ) (ns : List ℕ) → all (λ k. not (eqb k n)) ns ≡ true → (ts : List Test) → 0 < n → firstOf ns ts ≡ n → ⊥
+absent n [] a ts some = λ e. omega arith
+absent n (k ∷ ns) a ts some =
+    by-cond (λ (r : ℕ). r ≡ n → ⊥) (holdsAt k ts) k (firstOf ns ts)
+    (λ holds. eqb-false k n (not-true (eqb k n) (both-left (not (eqb k n)) (all (λ j. not (eqb j n)) ns) a)))
+    (λ fails. absent n ns (both-right (not (eqb k n)) (all (λ j. not (eqb j n)) ns) a) ts some)
+
+pub nine-unused : NineUnused
+nine-unused ts = absent 9 order refl ts (omega arith)

@@ -1,5 +1,6 @@
 -- The numbers a call may answer, their order, and what a refused call answers: definition, Numbers a call may answer.
 use Prim.Native.Nat.{ℕ}
+use mathlib.Core.Path.{_≡_}
 use mathlib.Core.Bool.{Bool, false, cond, _&&_, _||_}
 use mathlib.Core.List.{List, [], _∷_}
 use lib.Dec.{eqb}
@@ -9,9 +10,9 @@ use Rattle.vdp_state.specs.declared.answer.Answer.{Answer}
 use Rattle.vdp_state.specs.Cell.{after, perform}
 use Rattle.vdp_state.specs.State.{Chip}
 
--- "the first of 1, 2, 3, 10, 8, 5, 4, 9, 7, 6 whose condition holds"
+-- "the first of 1, 2, 3, 10, 8, 5, 4, 7, 6 whose condition holds"
 abbrev pub order : List ℕ
-order = 1 ∷ 2 ∷ 3 ∷ 10 ∷ 8 ∷ 5 ∷ 4 ∷ 9 ∷ 7 ∷ 6 ∷ []
+order = 1 ∷ 2 ∷ 3 ∷ 10 ∷ 8 ∷ 5 ∷ 4 ∷ 7 ∷ 6 ∷ []
 
 -- a number of the table and whether its condition holds; a call lists those that have its arguments
 pub record Test : Type 0 where
@@ -33,6 +34,10 @@ firstOf (n ∷ ns) ts = cond (holdsAt n ts) n (firstOf ns ts)
 -- the number that a call answers: the first in the order whose condition holds, and 0 where none does
 abbrev pub first : List Test → ℕ
 first ts = firstOf order ts
+
+-- the claim: "No call answers 9.", whatever its conditions
+abbrev pub NineUnused : Type 0
+NineUnused = (ts : List Test) → first ts ≡ 9 → ⊥
 
 -- "A refused call gives its number, the state [..] as it was given them, and 0 as its result."
 abbrev pub refused : ℕ → State → Answer

@@ -1,4 +1,5 @@
-// The numbers a call may answer (definition, Numbers a call may answer) and the answers that carry them.
+// The numbers a call may answer (definition, Numbers a call may answer) and the answers that carry them. 9 is never
+// given.
 ghost use mathlib.Core.Path.{_≡_};
 ghost use Rattle.vdp_state.specs.Answer.{answered as answeredAs, outcome, served};
 ghost use Rattle.vdp_state.specs.State.{chip};
@@ -24,8 +25,6 @@ pub const TAPE_FULL: u8 = 6;
 pub const SOURCE_NOT_LENT: u8 = 7;
 
 pub const BAD_RECORD: u8 = 8;
-
-pub const TABLE_PAST_END: u8 = 9;
 
 pub const NOTHING_THERE: u8 = 10;
 

@@ -60,6 +60,18 @@ const RULES: &[&str] = &[
     "sprite met twice",
     "early low sprite keeps a later high one out",
     "low sprite under a high plane",
+    "plane A at E000h with 4,096 cells",
+    "plane B at E000h with 4,096 cells",
+    "plane A shows its cell at FFFEh",
+    "plane B shows its cell at FFFEh",
+    "cell at FFFEh shows the pattern row at FFFCh",
+    "window at its highest base, width 320",
+    "window at its highest base, width 256",
+    "sprite table at its highest base, width 320",
+    "sprite table at its highest base, width 256",
+    "walk goes to the sprite at FFF8h",
+    "scroll table at FC00h, entry of line 223",
+    "scroll table at FC00h, entry of line 239",
     "pattern name 2,047",
     "pattern row though the state is bad",
     "pattern row while DMA runs",
@@ -91,17 +103,17 @@ pub fn count(tally: &mut Tally, before: &Before, after: &Machine) {
     tally.meet_if(machine.state.running(), "line while DMA runs");
     shape(tally, &view);
     windows(tally, &view);
-    if let Ok(walk) = sprites::walk(&view) {
-        walked(tally, &view, &walk);
-        for (place, kept) in walk.kept.iter().enumerate() {
-            kept_sprite(tally, &view, kept, place);
-        }
-        let (dots, collision) = sprites::layer(&view, &walk);
-        let beside = !collision && meet_beside(&view, &walk);
-        tally.meet_if(beside, "solid pixels meet beside the screen alone");
-        early_and_late(tally, &view, &walk);
-        fronts(tally, &view, &dots);
+    let walk = sprites::walk(&view);
+    walked(tally, &view, &walk);
+    for (place, kept) in walk.kept.iter().enumerate() {
+        kept_sprite(tally, &view, kept, place);
     }
+    let (dots, collision) = sprites::layer(&view, &walk);
+    let beside = !collision && meet_beside(&view, &walk);
+    tally.meet_if(beside, "solid pixels meet beside the screen alone");
+    highest(tally, &view, &walk);
+    early_and_late(tally, &view, &walk);
+    fronts(tally, &view, &dots);
     flags(tally, &machine.state, &after.state);
 }
 
@@ -171,15 +183,56 @@ fn walked(tally: &mut Tally, view: &View, walk: &Walk) {
     }
 }
 
+/// Tables as far up in VRAM as they go, and the last places that a line reads of them.
+fn highest(tally: &mut Tally, view: &View, walk: &Walk) {
+    let top = |register: usize, bits: u8| view.state.registers[register] & bits == bits;
+    let (window, table) = if view.wide() { (0x3C, 0x7E) } else { (0x3E, 0x7F) };
+    let windowed = (0..view.width()).any(|x| planes::window_here(view, x));
+    let rule = format!("window at its highest base, width {}", view.width());
+    tally.meet_if(top(3, window) && windowed, &rule);
+    let rule = format!("sprite table at its highest base, width {}", view.width());
+    tally.meet_if(top(5, table), &rule);
+    let last = numbers(view, walk).iter().any(|(number, _)| *number == 63);
+    tally.meet_if(top(5, table) && !view.wide() && last, "walk goes to the sprite at FFF8h");
+    let entry = planes::scroll_line(view.state, view.line);
+    tally.meet_if(top(13, 0x3F) && entry == 223, "scroll table at FC00h, entry of line 223");
+    tally.meet_if(top(13, 0x3F) && entry == 239, "scroll table at FC00h, entry of line 239");
+    if top(2, 0x38) {
+        highest_plane(tally, view, Plane::A);
+    }
+    if top(4, 0x07) {
+        highest_plane(tally, view, Plane::B);
+    }
+}
+
+/// A plane at E000h, on the columns that show it; with 4,096 cells its last one is at FFFEh.
+fn highest_plane(tally: &mut Tally, view: &View, plane: Plane) {
+    let (wide, high) = planes::plane_size(view.state).unwrap_or((32, 32));
+    let h = planes::horizontal_scroll(view, plane);
+    let cell = planes::take_apart(view.word(0xFFFE));
+    let last_row = if cell.flip_v { 0 } else { 7 };
+    let (mut shown, mut last_cell, mut last_pattern) = (false, false, false);
+    for x in 0..view.width() {
+        let here = wide * high == 4_096 && (plane == Plane::B || !planes::window_here(view, x));
+        let (across, down) = (x + 1_024 - h, view.line + planes::vertical_scroll(view, plane, x));
+        let last = across / 8 % wide == wide - 1 && down / 8 % high == high - 1;
+        shown |= here;
+        last_cell |= here && last;
+        last_pattern |= here && last && cell.name == 2_047 && down % 8 == last_row;
+    }
+    tally.meet_if(shown, &format!("plane {plane:?} at E000h with 4,096 cells"));
+    tally.meet_if(last_cell, &format!("plane {plane:?} shows its cell at FFFEh"));
+    tally.meet_if(last_pattern, "cell at FFFEh shows the pattern row at FFFCh");
+}
+
 /// The sprites visited, each with its number.
 fn numbers(view: &View, walk: &Walk) -> Vec<(usize, sprites::Sprite)> {
     let mut list = Vec::new();
     let mut number = 0;
     for _ in 0..walk.visits {
-        if let Ok(sprite) = sprites::entry(view, number) {
-            list.push((number, sprite));
-            number = sprite.link;
-        }
+        let sprite = sprites::entry(view, number);
+        list.push((number, sprite));
+        number = sprite.link;
     }
     list
 }
@@ -247,17 +300,17 @@ fn early_and_late(tally: &mut Tally, view: &View, walk: &Walk) {
 }
 
 fn fronts(tally: &mut Tally, view: &View, dots: &[Dot]) {
-    let scroll_a = planes::horizontal_scroll(view, Plane::A).unwrap_or(0);
-    let scroll_b = planes::horizontal_scroll(view, Plane::B).unwrap_or(0);
+    let scroll_a = planes::horizontal_scroll(view, Plane::A);
+    let scroll_b = planes::horizontal_scroll(view, Plane::B);
     let mut met = [false; 7];
     let (mut under, mut covered) = (false, false);
     for (x, sprite) in dots.iter().enumerate() {
-        let plane = planes::plane_dot(view, Plane::A, scroll_a, x).unwrap_or_default();
-        let window = planes::window_dot(view, x).unwrap_or_default();
+        let plane = planes::plane_dot(view, Plane::A, scroll_a, x);
+        let window = planes::window_dot(view, x);
         let windowed = planes::window_here(view, x);
         let a = if windowed { window } else { plane };
         covered |= windowed && !window.solid() && plane.solid();
-        let b = planes::plane_dot(view, Plane::B, scroll_b, x).unwrap_or_default();
+        let b = planes::plane_dot(view, Plane::B, scroll_b, x);
         let layers = [*sprite, a, b];
         met[front(layers)] = true;
         let high = layers[1..].iter().any(|dot| dot.solid() && dot.high);

@@ -8,7 +8,7 @@ mod runs;
 
 use std::collections::BTreeMap;
 
-use crate::answer::{Answer, TABLE_PAST_END};
+use crate::answer::Answer;
 use crate::check::number_in;
 use crate::replay::{Command, Machine};
 
@@ -21,16 +21,12 @@ const ANSWERS: [(u8, &[Answer]); 12] = [
     (5, &[0, 1, 2, 3, 6]),
     (6, &[0, 1, 2, 3, 6]),
     (7, &[0, 1, 2, 6, 7]),
-    (8, &[0, 1, 2, 4, 5, 6, 9]),
+    (8, &[0, 1, 2, 4, 5, 6]),
     (9, &[0, 1, 2, 6]),
     (10, &[0, 1, 2, 8, 10]),
     (11, &[0, 2, 5]),
     (12, &[0]),
 ];
-
-/// Of these, a line's answer 9 can't be given: each table begins at a multiple of a power of two
-/// that is no less than the table's size, so none passes FFFFh.
-const NOT_GIVEN: (u8, Answer) = (8, TABLE_PAST_END);
 
 /// How often each answer and each rule was met.
 pub struct Tally {
@@ -101,8 +97,7 @@ impl Tally {
 
     /// What no stream has met.
     pub fn never(&self) -> Vec<String> {
-        let unmet = self.answers.iter().filter(|(_, times)| **times == 0);
-        let answers = unmet.filter(|(answer, _)| **answer != NOT_GIVEN);
+        let answers = self.answers.iter().filter(|(_, times)| **times == 0);
         let rules = self.rules.iter().filter(|(_, times)| **times == 0);
         answers
             .map(|((op, number), _)| format!("op {op} answer {number}"))
@@ -164,13 +159,13 @@ mod tests {
         assert_eq!(listed.answers.len(), tally.answers.len());
     }
 
-    /// What a stream has not met is told, but not the answer that can't be given.
+    /// What a stream has not met is told, and what it has met is not.
     #[test]
     fn what_never_came_up_is_told() {
         let mut tally = Tally::new();
         tally.follow(&[Command { op: 11, a: 0, b: 2_047, c: 7 }]);
         let never = tally.never();
-        for met in ["op 11 answer 0", "pattern row 7", "pattern name 2,047", "op 8 answer 9"] {
+        for met in ["op 11 answer 0", "pattern row 7", "pattern name 2,047"] {
             assert!(!never.contains(&met.to_string()), "{met}");
         }
         for unmet in ["op 11 answer 5", "op 8 answer 0", "pattern row 6", "line 223"] {

@@ -14,7 +14,7 @@ pub fn fill(maker: &mut Maker) {
 
 /// One phrase of drawing.
 pub fn episode(maker: &mut Maker) {
-    match maker.below(27) {
+    match maker.below(28) {
         0..=3 => layout(maker),
         4..=8 => ring(maker),
         9 => chain(maker),
@@ -28,6 +28,7 @@ pub fn episode(maker: &mut Maker) {
         23 => holes(maker),
         24 => overlapping(maker),
         25 => bad_state(maker),
+        26 => highest(maker),
         _ => (),
     }
     lines(maker);
@@ -234,6 +235,34 @@ fn overlapping(maker: &mut Maker) {
     maker.poke(VRAM, base + 12, 0x80 | low);
     maker.line(line);
     maker.line(line + 8);
+}
+
+/// Tables at their highest bases: a line that shows the last row of both planes, with the last
+/// pattern named at FFFEh, and the same line with the last sprite.
+fn highest(maker: &mut Maker) {
+    for (register, bits) in [(2, 0x38), (3, 0x3E), (4, 0x07), (5, 0x7F), (13, 0x3F)] {
+        if maker.once_in(2) {
+            let others = maker.byte();
+            set(maker, register, bits | others);
+        }
+    }
+    let (size, rows) = maker.pick(&[(0x03, 256), (0x11, 512), (0x30, 1_024)]);
+    set(maker, 16, size);
+    set(maker, 11, 0x03);
+    let state = &maker.machine.state;
+    let (wide, height) = (state.registers[12] & 1 != 0, draw::height(state));
+    let line = maker.pick(&[7, height - 1]);
+    maker.field(SCROLL, 0, rows - 1 - line);
+    maker.field(SCROLL, 1, rows - 1 - line);
+    let upper = maker.byte();
+    maker.poke(VRAM, 0xFFFE, upper | 0x07);
+    maker.poke(VRAM, 0xFFFF, 0xFF);
+    maker.line(line);
+    let last = if wide { 79 } else { 63 };
+    let (size, x) = (maker.byte() & 0x0F, some_x(maker));
+    sprite(maker, 0, 300, 0, last, x);
+    sprite(maker, u32::from(last), line, size, 0, x);
+    maker.line(line);
 }
 
 /// Pattern rows with names and rows at their edges and just past them, and the parts of a colour.

@@ -1,18 +1,13 @@
 -- Each test in its order.
-use Prim.Native.Nat.{ℕ, _≤_}
-use Rattle.vdp_line.proofs.Bounds.{height-small}
+use Prim.Native.Nat.{ℕ}
 use Rattle.vdp_line.specs.Layout.{height}
 use borrow.Author.Needs.{needs}
 use borrow.Author.Tests.{not-true, not-false, eq-eqb, ne-eqb, le-leb, lt-leb}
 use lib.Dec.{leb}
 use mathlib.Core.Bool.{true, false}
 use mathlib.Core.Path.{_≡_, sym, ap, _∙_}
-use native.Mathlib.Omega.{arith}
 use Rattle.vdp_line.proofs.number.line_number.Statement.{statement}
 use Rattle.vdp_line.proofs.number.line_number.Tie as tie
-
-tall : (c : tie.After-height) → c .height .result ≤ 240
-tall c = omega (arith, c .height .ensures, height-small (c .before .before .before .before .before .before .before .args .s))
 
 tall1 : (c : tie.Then4) → leb (height (c .before .before .before .before .before .before .before .before .args .s)) (c .before .before .before .before .before .before .before .before .args .line) ≡ true
 tall1 c = ap (λ (n : ℕ). leb n (c .before .before .before .before .before .before .before .before .args .line)) (sym (c .before .height .ensures)) ∙ le-leb _ _ (c .if4 .taken)
@@ -35,14 +30,8 @@ returns-4 c = simp (sym (c .before .before .before .before .before .good2 .ensur
 returns-5 : tie.Need-returns-5
 returns-5 c = simp (sym (c .before .before .before .before .before .before .before .good2 .ensures) ∙ not-false _ (c .before .before .before .before .before .before .if1 .left), eq-eqb _ _ (c .before .before .before .before .before .if2 .left), eq-eqb _ _ (c .before .before .before .before .if3 .left), tall0 (c .before .before), sym (c .before .not-modelled .ensures) ∙ c .if5 .taken)
 
-cast-table-past-end : tie.Need-cast-table-past-end
-cast-table-past-end c = omega (arith, tall (c .before .before .before), c .before .before .if4 .left)
-
 returns-6 : tie.Need-returns-6
-returns-6 c = simp (sym (c .before .before .before .before .before .before .before .before .before .good2 .ensures) ∙ not-false _ (c .before .before .before .before .before .before .before .before .if1 .left), eq-eqb _ _ (c .before .before .before .before .before .before .before .if2 .left), eq-eqb _ _ (c .before .before .before .before .before .before .if3 .left), tall0 (c .before .before .before .before), sym (c .before .before .before .not-modelled .ensures) ∙ c .before .before .if5 .left, sym (c .before .table-past-end .ensures) ∙ c .if6 .taken)
-
-returns-7 : tie.Need-returns-7
-returns-7 c = simp (sym (c .before .before .before .before .before .before .before .before .before .good2 .ensures) ∙ not-false _ (c .before .before .before .before .before .before .before .before .if1 .left), eq-eqb _ _ (c .before .before .before .before .before .before .before .if2 .left), eq-eqb _ _ (c .before .before .before .before .before .before .if3 .left), tall0 (c .before .before .before .before), sym (c .before .before .before .not-modelled .ensures) ∙ c .before .before .if5 .left, sym (c .before .table-past-end .ensures) ∙ c .if6 .left)
+returns-6 c = simp (sym (c .before .before .before .before .before .before .before .good2 .ensures) ∙ not-false _ (c .before .before .before .before .before .before .if1 .left), eq-eqb _ _ (c .before .before .before .before .before .if2 .left), eq-eqb _ _ (c .before .before .before .before .if3 .left), tall0 (c .before .before), sym (c .before .not-modelled .ensures) ∙ c .if5 .left)
 
 pub line-number-spec : {M : Type 1} → statement M
 line-number-spec =
@@ -56,7 +45,4 @@ line-number-spec =
     returns-4
     (λ c κs. search needs)
     returns-5
-    cast-table-past-end
-    (λ c κs. search needs)
-    returns-6
-    returns-7)
+    returns-6)
