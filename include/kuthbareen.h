@@ -47,6 +47,9 @@ enum {
     KUTHBAREEN_RECORD_SIZE = 32
 };
 
+/* The most units of DMA that can remain: the length that registers 19 and 20 stand for while both are 0. */
+enum { KUTHBAREEN_MOST_UNITS = 65536 };
+
 /* How many steps a tape of n bytes can hold. */
 #define KUTHBAREEN_TAPE_CAPACITY(n) ((n) / KUTHBAREEN_RECORD_SIZE)
 
@@ -60,7 +63,7 @@ typedef struct {
 /* DMA at work. */
 typedef struct {
     uint8_t kind;       /* 0 idle, 1 fill waiting, 2 transfer, 3 fill, 4 copy */
-    uint32_t remaining; /* units: words of a transfer, bytes of a fill or copy */
+    uint32_t remaining; /* words of a transfer, bytes of a fill or copy; at most KUTHBAREEN_MOST_UNITS */
     uint32_t source;    /* a byte address: of the 68000 in a transfer, of VRAM in a copy */
     uint8_t fill;       /* the fill byte */
 } kuthbareen_dma;
@@ -124,8 +127,8 @@ kuthbareen_answer kuthbareen_status_read(kuthbareen_state *state);
 /* Begins a new frame: clears the sprite flags. */
 kuthbareen_answer kuthbareen_new_frame(kuthbareen_state *state);
 
-/* Makes DMA units, at most as many as the budget: the result says how many. A transfer finds its words in the
- * cartridge, and from E00000h up in work RAM. */
+/* Makes DMA units, at most as many as the budget: the result says how many. A budget of KUTHBAREEN_MOST_UNITS or above
+ * makes all that remain. A transfer finds its words in the cartridge, and from E00000h up in work RAM. */
 kuthbareen_answer kuthbareen_run(kuthbareen_state *state, uint8_t *vram, size_t vram_size, const uint8_t *cartridge,
                                  size_t cartridge_size, const uint8_t *ram, size_t ram_size, uint32_t budget);
 
@@ -136,7 +139,7 @@ kuthbareen_answer kuthbareen_line(kuthbareen_state *state, const uint8_t *vram, 
                                   uint8_t *pixels, size_t pixels_size);
 
 /* The recorded calls do what the calls above do and put a record on the tape for each step; a run has a step for each
- * unit. A tape without room for all of a call's steps refuses it. */
+ * unit, so KUTHBAREEN_MOST_UNITS at most. A tape without room for all of a call's steps refuses it. */
 kuthbareen_recorded kuthbareen_recorded_control_write(kuthbareen_state *state, uint8_t *tape, size_t tape_size,
                                                       size_t count, uint16_t word);
 

@@ -73,6 +73,9 @@ pub const NOTHING_THERE: u8 = 10;
 pub const LINE_SIZE: usize = 320;
 pub const RECORD_SIZE: usize = 32;
 
+// The most units of DMA that can remain.
+pub const MOST_UNITS: u32 = 65_536;
+
 mod c {
     use super::{Answer, Recorded, State};
 

@@ -1,7 +1,8 @@
 // A chip with its VRAM, its screen and its tape, beside the work RAM of its 68000, and what makes it ready for each
 // piece of work.
 use crate::exports::{
-    control_write, data_write, fresh, recorded_data_write, State, DONE, LINE_SIZE, RECORD_SIZE,
+    control_write, data_write, fresh, recorded_data_write, State, DONE, LINE_SIZE, MOST_UNITS,
+    RECORD_SIZE,
 };
 
 pub const MEMORY_SIZE: usize = 65_536;
@@ -10,8 +11,8 @@ pub type Memory = [u8; MEMORY_SIZE];
 
 pub const LINES: usize = 224;
 
-// Room for a step for each byte of VRAM.
-const TAPE_SIZE: usize = MEMORY_SIZE * RECORD_SIZE;
+// Room for a step for each unit of the longest run.
+const TAPE_SIZE: usize = MOST_UNITS as usize * RECORD_SIZE;
 
 pub const RECORDED_WRITES: u32 = 10_000;
 
@@ -72,8 +73,8 @@ fn lay_pattern(bytes: &mut [u8]) {
     }
 }
 
-// DMA on, the longest length (65,535).
-const LONGEST: [u16; 3] = [0x8114, 0x93FF, 0x94FF];
+// DMA on, and the longest length: registers 19 and 20 zero.
+const LONGEST: [u16; 3] = [0x8114, 0x9300, 0x9400];
 
 // A fill with 5Ah, VRAM address 0, step 1.
 pub fn fill(m: &mut Machine) {

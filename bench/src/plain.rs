@@ -1,7 +1,9 @@
 // The same work as a plain Rust program would do it, unit by unit on the lent state, by the rules of docs/DEFINITION.md
 // (Ports and DMA). Buffers are arrays, so that no store needs a bounds check. Calls are never inlined, as those of the
 // library are not.
-use crate::exports::{Answer, Control, Dma, State, BAD_STATE, BUSY, DONE, SOURCE_NOT_LENT};
+use crate::exports::{
+    Answer, Control, Dma, State, BAD_STATE, BUSY, DONE, MOST_UNITS, SOURCE_NOT_LENT,
+};
 use crate::machine::Memory;
 
 const WORK_RAM: u32 = 0xE0_0000;
@@ -23,7 +25,7 @@ pub fn control_good(control: &Control) -> bool {
     };
     control.port.code <= 63
         && dma.kind <= 4
-        && dma.remaining <= 65_535
+        && dma.remaining <= MOST_UNITS
         && (dma.remaining == 0) == (dma.kind <= 1)
         && source_good
         && (dma.fill == 0 || dma.kind == 3)
@@ -98,7 +100,7 @@ fn fill_begun(state: &State, word: u16) -> Dma {
     Dma {
         kind: 3,
         remaining: if length == 0 {
-            65_535
+            MOST_UNITS
         } else {
             u32::from(length)
         },

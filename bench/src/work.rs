@@ -1,11 +1,9 @@
 // The pieces of work: how a machine is made ready, and the work as the library and as plain Rust do it.
 use std::hint::black_box;
 
-use crate::exports::{self, Answer, Recorded, State, DONE, LINE_SIZE};
+use crate::exports::{self, Answer, Recorded, State, DONE, LINE_SIZE, MOST_UNITS};
 use crate::machine::{self, Machine, Memory, Screen, LINES, RECORDED_WRITES};
 use crate::{plain, plain_line, plain_tape};
-
-const LONGEST_RUN: u32 = 65_535;
 
 const DATA_WRITES: u32 = 1_000_000;
 
@@ -44,7 +42,7 @@ pub fn all() -> Vec<Work> {
         },
         Work {
             name: "recorded fill",
-            units: LONGEST_RUN,
+            units: MOST_UNITS,
             make_ready: machine::fill,
             ours: our_recorded_fill,
             plain: plain_recorded_fill,
@@ -62,7 +60,7 @@ pub fn all() -> Vec<Work> {
 fn run(name: &'static str, make_ready: fn(&mut Machine)) -> Work {
     Work {
         name,
-        units: LONGEST_RUN,
+        units: MOST_UNITS,
         make_ready,
         ours: our_run,
         plain: plain_run,

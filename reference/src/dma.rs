@@ -2,7 +2,7 @@
 //! (definition, DMA; notes s11).
 
 use crate::ports;
-use crate::state::{State, Vram, COPY, FILL, FILL_WAITING, IDLE, TRANSFER};
+use crate::state::{State, Vram, COPY, FILL, FILL_WAITING, IDLE, TRANSFER, UNITS_MOST};
 
 /// Work RAM answers from this address up.
 const WORK_RAM_FROM: u32 = 0xE0_0000;
@@ -42,7 +42,7 @@ fn begin(state: &mut State, kind: u8, remaining: u32, source: u32, fill: u8) {
 /// Registers 20:19; zero stands for the greatest length.
 fn length(state: &State) -> u32 {
     match u16::from_be_bytes([state.registers[20], state.registers[19]]) {
-        0 => 65_535,
+        0 => UNITS_MOST,
         units => u32::from(units),
     }
 }

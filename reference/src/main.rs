@@ -8,6 +8,8 @@
 #![forbid(unsafe_code)]
 
 mod answer;
+#[cfg(test)]
+mod bench;
 mod book;
 mod calls;
 mod cells;
@@ -15,6 +17,8 @@ mod check;
 mod cover;
 mod dma;
 mod draw;
+#[cfg(test)]
+mod longest;
 mod pattern;
 mod planes;
 mod ports;

@@ -9,6 +9,8 @@ pub const SCROLLS: usize = 40;
 pub const COLOUR_BITS: u16 = 0x0EEE;
 /// The greatest vertical scroll word.
 pub const SCROLL_MOST: u16 = 0x3FF;
+/// The most units that can remain; a length of zero stands for as many (definition, DMA).
+pub const UNITS_MOST: u32 = 65_536;
 
 pub type Vram = [u8; VRAM_BYTES];
 
@@ -69,7 +71,7 @@ impl State {
     /// Units remain exactly while a transfer, fill or copy is under way.
     fn remaining_good(&self) -> bool {
         let under_way = self.kind != IDLE && self.kind != FILL_WAITING;
-        self.remaining <= 65_535 && (self.remaining != 0) == under_way
+        self.remaining <= UNITS_MOST && (self.remaining != 0) == under_way
     }
 
     fn source_good(&self) -> bool {

@@ -75,13 +75,18 @@ fn cell_of(record: &Record) -> Cell {
     }
 }
 
+/// The units remaining that a record holds.
+pub fn remaining_of(record: &Record) -> u32 {
+    u32::from_be_bytes([0, record[13], record[14], record[15]])
+}
+
 /// Puts the record's part of the state into a state; the other fields stay.
 fn restore_state(state: &mut State, record: &Record) {
     state.address = u16::from_be_bytes([record[8], record[9]]);
     state.code = record[10];
     state.pending = record[11] != 0;
     state.kind = record[12];
-    state.remaining = u32::from_be_bytes([0, record[13], record[14], record[15]]);
+    state.remaining = remaining_of(record);
     state.source = u32::from_be_bytes([0, record[16], record[17], record[18]]);
     state.fill = record[19];
     state.overflow = record[20] & 1 != 0;

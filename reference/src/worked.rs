@@ -5,71 +5,13 @@ use crate::answer::{
     BAD_BUFFER, BAD_RECORD, BAD_STATE, BUSY, NOTHING_THERE, NOT_MODELLED, NO_SUCH_PLACE,
     SOURCE_NOT_LENT, TAPE_FULL,
 };
+use crate::bench::Bench;
 use crate::calls;
 use crate::check::Checker;
 use crate::dma::Memories;
-use crate::replay::{commands, Command, Machine};
+use crate::replay::{commands, Command};
 use crate::state::{State, COPY, FILL, FILL_WAITING, IDLE, TRANSFER};
 use crate::streams::{stream, Kind};
-
-/// A machine with a call for each op, so that the cases read like the definition.
-struct Bench(Machine);
-
-impl Bench {
-    fn new() -> Bench {
-        Bench(Machine::new())
-    }
-
-    fn call(&mut self, op: u8, a: u8, b: u16, c: u32) -> Result<u32, u8> {
-        self.0.call(&Command { op, a, b, c })
-    }
-
-    fn control(&mut self, words: &[u16]) {
-        for word in words {
-            assert_eq!(self.call(1, 0, *word, 0), Ok(0));
-        }
-    }
-
-    fn write(&mut self, word: u16) {
-        assert_eq!(self.call(3, 0, word, 0), Ok(0));
-    }
-
-    fn run(&mut self, budget: u32) -> Result<u32, u8> {
-        self.call(7, 0, 0, budget)
-    }
-
-    fn line(&mut self, line: u32) -> Result<u32, u8> {
-        self.call(8, 0, 0, line)
-    }
-
-    fn state(&mut self) -> &mut State {
-        &mut self.0.state
-    }
-
-    fn vram(&mut self) -> &mut [u8] {
-        &mut self.0.vram.bytes
-    }
-
-    /// Shows a 320 pixel screen: sprites at 8000h, A at E000h, B at C000h, window and scroll at F000h.
-    fn screen() -> Bench {
-        let mut bench = Bench::new();
-        bench.control(&[0x8004, 0x8144, 0x8540, 0x8C81, 0x8238, 0x8406, 0x833C, 0x8D3C]);
-        bench
-    }
-
-    /// Writes a sprite to the table that register 5 names.
-    fn sprite(&mut self, number: usize, y: u16, size: u8, link: u8, cell: u16, x: u16) {
-        let at = 512 * usize::from(self.state().registers[5]) + 8 * number;
-        let (y, cell, x) = (y.to_be_bytes(), cell.to_be_bytes(), x.to_be_bytes());
-        let bytes = [y[0], y[1], size, link, cell[0], cell[1], x[0], x[1]];
-        self.vram()[at..at + 8].copy_from_slice(&bytes);
-    }
-
-    /// Makes a pattern of one pixel value.
-    fn pattern(&mut self, name: usize, pixel: u8) {
-        self.vram()[32 * name..32 * name + 32].fill(17 * pixel);
-    }
-}
 
 #[test]
 fn register_15_is_set() {
@@ -442,14 +384,14 @@ fn step_back_inside_a_recorded_copy() {
     assert_eq!(bench.run(3), Ok(0));
     assert_eq!(bench.call(9, 0, 0, 0), Err(TAPE_FULL));
     assert_eq!(bench.0.tape.bytes[..16], [1, 0, 32, 1, 0, 0, 0xAA, 0, 0, 1, 0x30, 0, 4, 0, 0, 3]);
-    assert_eq!(bench.call(10, 0, 0, 2), Ok(0));
+    assert_eq!(bench.back(2), Ok(0));
     assert_eq!((bench.0.count, bench.state().remaining), (1, 2));
     assert_eq!(bench.vram()[..4], [0xAA, 0xAA, 0, 0]);
-    assert_eq!(bench.call(10, 0, 0, 2), Err(NOTHING_THERE));
+    assert_eq!(bench.back(2), Err(NOTHING_THERE));
     bench.0.tape.bytes[31] = 1;
-    assert_eq!(bench.call(10, 0, 0, 1), Err(BAD_RECORD));
+    assert_eq!(bench.back(1), Err(BAD_RECORD));
     bench.0.tape.bytes[31] = 0;
-    assert_eq!(bench.call(10, 0, 0, 1), Ok(0));
+    assert_eq!(bench.back(1), Ok(0));
     assert_eq!(*bench.state(), before);
     assert_eq!(bench.vram()[..4], [0xAA, 0, 0, 0]);
 }

@@ -1,7 +1,7 @@
 -- The cases of definition, Worked cases, that are proved, as one table: what is given, and what should be.
 use Prim.Native.Nat.{ℕ}
 use mathlib.Core.Bool.{Bool, true, false, _&&_}
-use mathlib.Core.List.{List, [], _∷_}
+use mathlib.Core.List.{List, [], _∷_, map}
 use lib.ListN.{set, take, replicate}
 use Rattle.vdp_state.specs.declared.state.State.{State}
 use Rattle.vdp_state.specs.Answer.{Outcome}
@@ -36,6 +36,13 @@ written w c = left (dataWrite c w)
 abbrev pub ended : Chip → Chip
 ended c = left (run c [] zeros mostUnits)
 
+-- how many units remain, and how many a run with this budget makes
+abbrev pub remaining : State → ℕ
+remaining s = s .control .dma .remaining
+
+abbrev pub unitsRun : ℕ → State → ℕ
+unitsRun budget s = run (chip s zeros) [] zeros budget .answer .result
+
 -- auto-increment 2, and the two halves of a command: VRAM write, colour write, scroll write
 abbrev pub accessed : ℕ → ℕ → State
 accessed firstHalf secondHalf = controls (0x8f02 ∷ firstHalf ∷ secondHalf ∷ []) start
@@ -47,6 +54,17 @@ filled = ended (written 0x1234 (chip (controls (0x8f01 ∷ 0x9304 ∷ 0x9400 ∷
 -- "VRAM AA 00 00 00 00, a copy from 0 to 1, step 1, length 3"
 abbrev pub copying : State
 copying = controls (0x8f01 ∷ 0x9303 ∷ 0x9400 ∷ 0x97c0 ∷ 0x8114 ∷ 0x0001 ∷ 0x00c0 ∷ []) start
+
+-- "registers 19 and 20 zero": a transfer, a copy, a fill that has its word
+abbrev pub zeroLength : ℕ → ℕ → ℕ → State
+zeroLength kind firstHalf secondHalf = controls (0x8114 ∷ 0x9300 ∷ 0x9400 ∷ kind ∷ firstHalf ∷ secondHalf ∷ []) start
+
+abbrev pub longest : List State
+longest =
+    zeroLength 0x9770 0x4000 0x0080
+    ∷ zeroLength 0x97c0 0x0001 0x00c0
+    ∷ written 0x1234 (chip (zeroLength 0x9780 0x4000 0x0080) zeros) .state
+    ∷ []
 
 pub record Case : Type 0 where
   pub given : List ℕ
@@ -91,6 +109,9 @@ table =
     ∷ gives (bytesAndAddress 6 filled) (5 ∷ 0x12 ∷ 0x34 ∷ 0x12 ∷ 0x12 ∷ 0x00 ∷ 0x12 ∷ [])
     -- the copy: four AA
     ∷ gives (bytesAndAddress 5 (ended (chip copying (set zeros 0 0xaa)))) (4 ∷ 0xaa ∷ 0xaa ∷ 0xaa ∷ 0xaa ∷ 0x00 ∷ [])
+    -- registers 19 and 20 zero: 65,536 units remain, and a run with a greater budget makes them
+    ∷ gives (map remaining longest) (65536 ∷ 65536 ∷ 65536 ∷ [])
+    ∷ gives (map (unitsRun 65537) longest) (65536 ∷ 65536 ∷ 65536 ∷ [])
     ∷ []
 
 -- every case gives what it should

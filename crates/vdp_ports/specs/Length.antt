@@ -12,7 +12,7 @@ use Rattle.vdp_ports.specs.declared.length.Words.{Words}
 abbrev pub register : State → ℕ → ℕ
 register s i = getD (s .registers) i 0
 
--- "The length is registers 20:19, and 65,535 if they are 0."
+-- "The length is registers 20:19, and 65,536 if they are 0."
 abbrev pub units : ℕ → ℕ
 units n = cond (eqb n 0) mostUnits n
 

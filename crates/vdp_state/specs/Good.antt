@@ -21,9 +21,9 @@ isColour w = eqb (colourWord w) w
 abbrev pub isScroll : ℕ → Bool
 isScroll w = leb w 0x3ff
 
--- "The units remaining are not above 65,535."
+-- "The units remaining are not above 65,536."
 abbrev pub mostUnits : ℕ
-mostUnits = 65535
+mostUnits = 65536
 
 -- "The source is 0, or it is even and below 2^24 in kind 2, or it is below 2^16 in kind 4."
 abbrev pub goodSource : ℕ → ℕ → Bool

@@ -7,7 +7,7 @@ use crate::state::Dma;
 use crate::state::State;
 
 // The most units that can remain.
-pub const MOST_UNITS: u32 = 65535;
+pub const MOST_UNITS: u32 = 65536;
 
 // Every word is looked at, whatever the others are: a loop without a way out runs on many words at once.
 fn colours_good(words: &[u16]) -> bool

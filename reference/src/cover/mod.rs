@@ -11,6 +11,7 @@ use std::collections::BTreeMap;
 use crate::answer::Answer;
 use crate::check::number_in;
 use crate::replay::{Command, Machine};
+use crate::tape::{Record, RECORD_BYTES};
 
 /// The answers that each op may give (definition, Numbers a call may answer).
 const ANSWERS: [(u8, &[Answer]); 12] = [
@@ -90,6 +91,7 @@ impl Tally {
             10 => runs::count_back(self, &before, machine),
             _ => lines::count_row(self, &before),
         }
+        runs::count_most_remaining(self, &before);
         if before.taped() {
             self.meet(&recorded(command.op));
         }
@@ -130,6 +132,13 @@ pub struct Before {
 impl Before {
     pub fn taped(&self) -> bool {
         self.machine.recorded && self.command.op <= 9
+    }
+
+    /// A record of the tape, the lowest one being number 0.
+    pub fn record(&self, number: u32) -> Option<Record> {
+        let at = RECORD_BYTES * number as usize;
+        let bytes = self.machine.tape.bytes.get(at..at + RECORD_BYTES)?;
+        bytes.try_into().ok()
     }
 }
 

@@ -22,7 +22,8 @@ const RULES: &[&str] = &[
     "DMA started: transfer",
     "DMA started: fill waits",
     "DMA started: copy",
-    "DMA length zero",
+    "transfer begins with length zero",
+    "copy begins with length zero",
     "VRAM write swapped",
     "VRAM write straight",
     "VRAM read at an odd address",
@@ -119,7 +120,8 @@ fn second_half(tally: &mut Tally, state: &State, word: u16) {
         tally.meet_if(kind < 2, "DMA started: transfer");
         tally.meet_if(kind == 2, "DMA started: fill waits");
         tally.meet_if(kind == 3, "DMA started: copy");
-        tally.meet_if(kind != 2 && no_length(state), "DMA length zero");
+        tally.meet_if(kind < 2 && no_length(state), "transfer begins with length zero");
+        tally.meet_if(kind == 3 && no_length(state), "copy begins with length zero");
     }
 }
 

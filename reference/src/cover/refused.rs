@@ -8,8 +8,8 @@ use crate::answer::{
 use crate::dma::{self, word_from, Memories};
 use crate::draw;
 use crate::replay::{Buffer, Machine};
-use crate::state::{State, COPY, FILL, TRANSFER};
-use crate::tape::{good_record, Record, RECORD_BYTES};
+use crate::state::{State, COPY, FILL, TRANSFER, UNITS_MOST};
+use crate::tape::{good_record, remaining_of, Record, RECORD_BYTES};
 
 /// Parts of a record, each with the bytes it takes.
 const PARTS: [(&str, usize, usize); 14] = [
@@ -34,7 +34,8 @@ const RULES: &[&str] = &[
     "bad state: scroll word",
     "bad state: code",
     "bad state: kind",
-    "bad state: remaining above 65,535",
+    "bad state: remaining above the most",
+    "bad state: one unit above the most, else good",
     "bad state: none remaining in a run",
     "bad state: some remaining without a run",
     "bad state: odd source of a transfer",
@@ -81,6 +82,7 @@ const RULES: &[&str] = &[
     "nothing there: at a count of 0",
     "bad record: the top one",
     "bad record: a deeper one",
+    "bad record: one unit above the most, else good",
 ];
 
 pub fn rules() -> Vec<String> {
@@ -134,7 +136,8 @@ fn bad_state(tally: &mut Tally, before: &Before) {
         (state.scrolls.iter().any(|word| *word > 0x3FF), "scroll word"),
         (state.code > 63, "code"),
         (kind > COPY, "kind"),
-        (state.remaining > 65_535, "remaining above 65,535"),
+        (state.remaining > UNITS_MOST, "remaining above the most"),
+        (one_unit_over(state), "one unit above the most, else good"),
         (run && state.remaining == 0, "none remaining in a run"),
         (kind < 2 && state.remaining != 0, "some remaining without a run"),
         (kind == TRANSFER && state.source % 2 == 1, "odd source of a transfer"),
@@ -148,6 +151,12 @@ fn bad_state(tally: &mut Tally, before: &Before) {
     }
     tally.meet_if(!buffers_good(before), "1 before 2");
     tally.meet_if(run && before.command.op <= 6, "1 before 3");
+}
+
+/// Would a state be good with one unit less, which is the most that can remain?
+fn one_unit_over(state: &State) -> bool {
+    let mended = State { remaining: UNITS_MOST, ..state.clone() };
+    state.remaining == UNITS_MOST + 1 && mended.good()
 }
 
 /// Are VRAM and the count as they should be, if the call uses them?
@@ -254,20 +263,26 @@ fn tape_full(tally: &mut Tally, before: &Before) {
 
 /// Names the part by trying to mend it alone from a record known to be good.
 fn bad_record(tally: &mut Tally, before: &Before) {
-    let machine = &before.machine;
-    for number in 1..=before.command.c as usize {
-        let at = RECORD_BYTES * (machine.count as usize).saturating_sub(number);
-        let bytes = machine.tape.bytes.get(at..at + RECORD_BYTES);
-        let Some(record) = bytes.and_then(|bytes| Record::try_from(bytes).ok()) else {
+    for number in 1..=before.command.c {
+        let Some(record) = before.record(before.machine.count.saturating_sub(number)) else {
             continue;
         };
         if !good_record(&record) {
             tally.meet_if(number == 1, "bad record: the top one");
             tally.meet_if(number > 1, "bad record: a deeper one");
+            let over = record_one_unit_over(record);
+            tally.meet_if(over, "bad record: one unit above the most, else good");
             bad_part(tally, record);
             return;
         }
     }
+}
+
+/// Would a record be good with one unit less, which is the most that can remain?
+fn record_one_unit_over(record: Record) -> bool {
+    let mut mended = record;
+    mended[13..16].copy_from_slice(&UNITS_MOST.to_be_bytes()[1..]);
+    remaining_of(&record) == UNITS_MOST + 1 && good_record(&mended)
 }
 
 /// A part is to blame if some other value of it makes the record good.

@@ -3,8 +3,8 @@
 use super::{names, Before, Tally};
 use crate::dma::{self, Memories};
 use crate::replay::Machine;
-use crate::state::{State, Vram, COPY, FILL, FILL_WAITING, TRANSFER};
-use crate::tape::RECORD_BYTES;
+use crate::state::{State, Vram, COPY, FILL, FILL_WAITING, TRANSFER, UNITS_MOST};
+use crate::tape::{remaining_of, RECORD_BYTES};
 
 const RULES: &[&str] = &[
     "run of no units, idle",
@@ -16,6 +16,14 @@ const RULES: &[&str] = &[
     "budget just the remaining",
     "budget above the remaining",
     "run of over 1,000 units",
+    "transfer of the most units in one run",
+    "fill of the most units in one run",
+    "copy of the most units in one run",
+    "transfer of the most units but one",
+    "fill of the most units but one",
+    "copy of the most units but one",
+    "recorded unit with the most remaining",
+    "call done with the most units remaining",
     "transfer ends",
     "fill ends",
     "copy ends",
@@ -45,6 +53,7 @@ const RULES: &[&str] = &[
     "step back of all",
     "step back of some",
     "step back within a run",
+    "step back within a run to the most units",
     "step back into an ended run",
     "step back out of a run",
     "step back over a fill's first word",
@@ -60,6 +69,7 @@ const RULES: &[&str] = &[
     "undone: flag set again",
     "undone: flag cleared again",
     "undone: pending set again",
+    "undone: the most units remaining",
 ];
 
 pub fn rules() -> Vec<String> {
@@ -87,7 +97,31 @@ pub fn count_run(tally: &mut Tally, before: &Before) {
     tally.meet_if(ends && state.kind == TRANSFER, "transfer ends");
     tally.meet_if(ends && state.kind == FILL, "fill ends");
     tally.meet_if(ends && state.kind == COPY, "copy ends");
+    count_longest(tally, before, units);
     each_unit(tally, &before.machine, units);
+}
+
+/// Runs that begin with the most units that can remain.
+fn count_longest(tally: &mut Tally, before: &Before, units: u32) {
+    let state = &before.machine.state;
+    if state.remaining != UNITS_MOST {
+        return;
+    }
+    let kind = match state.kind {
+        TRANSFER => "transfer",
+        FILL => "fill",
+        _ => "copy",
+    };
+    let (whole, but_one) = (units == UNITS_MOST, units == UNITS_MOST - 1);
+    tally.meet_if(whole, &format!("{kind} of the most units in one run"));
+    tally.meet_if(but_one, &format!("{kind} of the most units but one"));
+    tally.meet_if(before.taped(), "recorded unit with the most remaining");
+}
+
+/// A call that is given a state is done with the most units that can remain.
+pub fn count_most_remaining(tally: &mut Tally, before: &Before) {
+    let most = before.command.op <= 10 && before.machine.state.remaining == UNITS_MOST;
+    tally.meet_if(most, "call done with the most units remaining");
 }
 
 /// Makes the units again on a copy, looking at the state before each.
@@ -171,6 +205,8 @@ pub fn count_back(tally: &mut Tally, before: &Before, after: &Machine) {
     tally.meet_if(steps < count, "step back of some");
     let within = then.running() && now.kind == then.kind && now.remaining > then.remaining;
     tally.meet_if(within, "step back within a run");
+    let to_most = within && now.remaining == UNITS_MOST;
+    tally.meet_if(to_most, "step back within a run to the most units");
     tally.meet_if(!then.running() && now.running(), "step back into an ended run");
     tally.meet_if(then.running() && !now.running(), "step back out of a run");
     let first_word = then.kind == FILL && now.kind == FILL_WAITING;
@@ -185,19 +221,20 @@ pub fn count_back(tally: &mut Tally, before: &Before, after: &Machine) {
 
 fn each_record(tally: &mut Tally, before: &Before) {
     let bottom = before.machine.count - before.command.c;
-    for record in bottom..before.machine.count {
-        let at = RECORD_BYTES * record as usize + 3;
-        let head = before.machine.tape.bytes.get(at..at + 3).unwrap_or(&[]);
-        match head {
-            [1, ..] => tally.meet("undone: VRAM word"),
-            [2, ..] => tally.meet("undone: colour"),
-            [3, ..] => tally.meet("undone: scroll"),
-            [4, ..] => tally.meet("undone: register"),
+    for record in (bottom..before.machine.count).filter_map(|place| before.record(place)) {
+        match record[3] {
+            1 => tally.meet("undone: VRAM word"),
+            2 => tally.meet("undone: colour"),
+            3 => tally.meet("undone: scroll"),
+            4 => tally.meet("undone: register"),
             _ => tally.meet("undone: nothing stored"),
         }
+        let head = &record[3..6];
         tally.meet_if(head == [1, 0xFF, 0xFE], "undone: VRAM word FFFEh");
         tally.meet_if(head == [2, 0, 63], "undone: colour 63");
         tally.meet_if(head == [3, 0, 39], "undone: scroll 39");
         tally.meet_if(head == [4, 0, 23], "undone: register 23");
+        let most = remaining_of(&record) == UNITS_MOST;
+        tally.meet_if(most, "undone: the most units remaining");
     }
 }

@@ -2,17 +2,19 @@
 
 use super::{Maker, SOURCE};
 use crate::replay::{CARTRIDGE, VRAM, WORK_RAM};
+use crate::state::UNITS_MOST;
 
 pub fn fill(maker: &mut Maker) {
     maker.scatter(VRAM);
     maker.scatter(WORK_RAM);
     maker.scatter(CARTRIDGE);
     while !maker.full() {
-        match maker.below(10) {
-            0..=3 => transfer(maker),
-            4..=6 => fill_dma(maker),
-            7 | 8 => copy(maker),
-            _ => not_started(maker),
+        match maker.below(40) {
+            0..=15 => transfer(maker),
+            16..=27 => fill_dma(maker),
+            28..=34 => copy(maker),
+            35..=38 => not_started(maker),
+            _ => longest(maker),
         }
         maker.calm();
     }
@@ -60,9 +62,13 @@ fn some_source(maker: &mut Maker) -> u32 {
 }
 
 pub fn transfer(maker: &mut Maker) {
+    let (source, length) = (some_source(maker), some_length(maker));
+    begin_transfer(maker, source, length);
+    runs(maker);
+}
+
+fn begin_transfer(maker: &mut Maker, source: u32, length: u16) {
     begin(maker);
-    let source = some_source(maker);
-    let length = some_length(maker);
     set_length(maker, length);
     let [_, page, middle, low] = (source / 2).to_be_bytes();
     maker.register(21, low);
@@ -72,12 +78,17 @@ pub fn transfer(maker: &mut Maker) {
     let code = maker.pick(&[0x21, 0x21, 0x21, 0x23, 0x23, 0x25, 0x25, 0x31, any]);
     let address = maker.address();
     maker.point(code, address);
-    runs(maker);
 }
 
 pub fn fill_dma(maker: &mut Maker) {
-    begin(maker);
     let length = some_length(maker);
+    begin_fill(maker, length);
+    runs(maker);
+}
+
+/// A fill up to its first word, with another call now and then while it waits.
+fn begin_fill(maker: &mut Maker, length: u16) {
+    begin(maker);
     set_length(maker, length);
     let mode = 0x80 | (maker.byte() & 0x3F);
     maker.register(23, mode);
@@ -98,13 +109,17 @@ pub fn fill_dma(maker: &mut Maker) {
         let word = maker.word();
         maker.write(word);
     }
+}
+
+pub fn copy(maker: &mut Maker) {
+    let length = some_length(maker);
+    begin_copy(maker, length);
     runs(maker);
 }
 
 /// Source and target often overlap, either way round.
-pub fn copy(maker: &mut Maker) {
+fn begin_copy(maker: &mut Maker, length: u16) {
     begin(maker);
-    let length = some_length(maker);
     set_length(maker, length);
     let address = maker.address();
     let other = maker.word();
@@ -120,7 +135,31 @@ pub fn copy(maker: &mut Maker) {
     let any = 0x20 | (maker.byte() % 64);
     let code = maker.pick(&[0x30, 0x30, 0x30, 0x20, 0x21, any]);
     maker.point(code, address);
-    runs(maker);
+}
+
+/// Any of the three with registers 19 and 20 zero. The cartridge has just the words that a transfer
+/// from 0 takes, and one too few from 2.
+pub fn begin_longest(maker: &mut Maker) {
+    match maker.below(4) {
+        0 | 1 => {
+            maker.length(CARTRIDGE, 131_072);
+            let source = maker.pick(&[0, 2, 0xE0_0000, 0xFF_0000, 0xFF_FFFC, 0xFF_FFFE]);
+            begin_transfer(maker, source, 0);
+        }
+        2 => begin_fill(maker, 0),
+        _ => begin_copy(maker, 0),
+    }
+}
+
+/// The greatest length in one run, or all but a unit of it and then the rest.
+fn longest(maker: &mut Maker) {
+    begin_longest(maker);
+    if maker.once_in(2) {
+        maker.run(UNITS_MOST - 1);
+        maker.status();
+    }
+    let budget = maker.pick(&[UNITS_MOST, UNITS_MOST + 1, u32::MAX]);
+    maker.run(budget);
 }
 
 /// DMA asked for while it is off, or not asked for while it is on.

@@ -4,7 +4,7 @@ use super::{
     Maker, ADDRESS, CODE, COLOUR, DMA_KIND, FILL_BYTE, PENDING, REGISTER, REMAINING, SCROLL, SOURCE,
 };
 use crate::replay::{CARTRIDGE, VRAM, WORK_RAM};
-use crate::state::{COPY, FILL, TRANSFER};
+use crate::state::{COPY, FILL, TRANSFER, UNITS_MOST};
 
 pub fn fill(maker: &mut Maker) {
     for buffer in [VRAM, WORK_RAM, CARTRIDGE] {
@@ -32,7 +32,7 @@ pub fn base(maker: &mut Maker) {
     let kind = maker.byte() % 5;
     maker.field(DMA_KIND, 0, u32::from(kind));
     if kind >= TRANSFER {
-        let remaining = maker.pick(&[1, 2, 7, 65_535]);
+        let remaining = maker.pick(&[1, 2, 7, UNITS_MOST - 1, UNITS_MOST]);
         maker.field(REMAINING, 0, remaining);
     }
     let source = match kind {
@@ -79,7 +79,7 @@ pub fn fault(maker: &mut Maker) {
             maker.field(DMA_KIND, 0, kind);
         }
         4 => {
-            let remaining = maker.pick(&[0, 1, 65_535, 65_536, u32::MAX]);
+            let remaining = maker.pick(&[0, 1, UNITS_MOST, UNITS_MOST + 1, u32::MAX]);
             maker.field(REMAINING, 0, remaining);
         }
         5 | 6 => bad_source(maker),
@@ -130,7 +130,7 @@ pub fn call(maker: &mut Maker) {
         4 => maker.read(),
         5 | 6 => maker.status(),
         7..=9 => {
-            let budget = maker.pick(&[0, 1, 2, 7, 65_535, 65_536, u32::MAX]);
+            let budget = maker.pick(&[0, 1, 2, 7, UNITS_MOST - 1, UNITS_MOST, u32::MAX]);
             maker.run(budget);
         }
         10 => maker.frame(),

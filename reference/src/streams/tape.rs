@@ -3,6 +3,7 @@
 
 use super::{dma, ports, refusals, Maker, COLLISION, OVERFLOW, PAL, PENDING};
 use crate::replay::{CARTRIDGE, TAPE, VRAM, WORK_RAM};
+use crate::state::UNITS_MOST;
 use crate::tape::RECORD_BYTES;
 
 const WHOLE_TAPE: u32 = 131_072;
@@ -26,7 +27,7 @@ pub fn fill(maker: &mut Maker) {
 
 /// One phrase of recorded calls.
 pub fn episode(maker: &mut Maker) {
-    match maker.below(32) {
+    match maker.below(33) {
         0..=8 => ports::episode(maker),
         9..=11 => dma::transfer(maker),
         12..=14 => dma::fill_dma(maker),
@@ -46,6 +47,7 @@ pub fn episode(maker: &mut Maker) {
             maker.frame();
             maker.back(1);
         }
+        31 => first_of_the_longest(maker),
         _ => maker.back(maker.machine.count),
     }
     if maker.once_in(3) {
@@ -230,20 +232,24 @@ const CELLS: [(u8, u16, u16); 16] = [
 ];
 
 /// DMA kind, remaining, source and fill byte at their edges, and just past them.
-const PARTS: [(u8, u32, u32, u8); 16] = [
+const PARTS: [(u8, u32, u32, u8); 20] = [
     (0, 0, 0, 0),
     (0, 0, 0, 1),
     (0, 1, 0, 0),
     (1, 0, 0, 0),
     (1, 0, 2, 0),
-    (2, 65_535, 0xFF_FFFE, 0),
+    (2, UNITS_MOST, 0xFF_FFFE, 0),
     (2, 1, 0xFF_FFFF, 0),
-    (2, 65_536, 0, 0),
+    (2, UNITS_MOST + 1, 0, 0),
     (2, 1, 0, 9),
     (3, 1, 0, 255),
     (3, 1, 1, 255),
+    (3, UNITS_MOST, 0, 1),
+    (3, UNITS_MOST + 1, 0, 1),
     (4, 2, 0xFFFF, 0),
     (4, 2, 0x1_0000, 0),
+    (4, UNITS_MOST, 1, 0),
+    (4, UNITS_MOST + 1, 1, 0),
     (4, 0, 0, 0),
     (5, 1, 0, 0),
     (3, 0, 0, 0),
@@ -335,10 +341,23 @@ fn long_run(maker: &mut Maker) {
         maker.write(0x5A5A);
     }
     let rest = maker.machine.state.remaining;
-    let part = maker.below(rest.min(65_535) + 1);
+    let part = maker.below(rest.min(UNITS_MOST) + 1);
     maker.run(part);
     let steps = maker.below(part + 3);
     maker.back(steps);
     maker.run(rest);
     back(maker);
+}
+
+/// The first units of the greatest length, over and back; the tape has no room for them all.
+fn first_of_the_longest(maker: &mut Maker) {
+    maker.calm();
+    dma::begin_longest(maker);
+    maker.run(1);
+    maker.back(1);
+    let some = 1 + maker.below(5);
+    maker.run(some);
+    maker.run(UNITS_MOST);
+    let steps = maker.pick(&[1, some, some, some + 1]);
+    maker.back(steps);
 }

@@ -1,0 +1,67 @@
+//! The bench that the tests' cases are worked on.
+
+use crate::replay::{Command, Machine};
+use crate::state::State;
+
+/// A machine with a call for each op, so that the cases read like the definition.
+pub struct Bench(pub Machine);
+
+impl Bench {
+    pub fn new() -> Bench {
+        Bench(Machine::new())
+    }
+
+    pub fn call(&mut self, op: u8, a: u8, b: u16, c: u32) -> Result<u32, u8> {
+        self.0.call(&Command { op, a, b, c })
+    }
+
+    pub fn control(&mut self, words: &[u16]) {
+        for word in words {
+            assert_eq!(self.call(1, 0, *word, 0), Ok(0));
+        }
+    }
+
+    pub fn write(&mut self, word: u16) {
+        assert_eq!(self.call(3, 0, word, 0), Ok(0));
+    }
+
+    pub fn run(&mut self, budget: u32) -> Result<u32, u8> {
+        self.call(7, 0, 0, budget)
+    }
+
+    pub fn line(&mut self, line: u32) -> Result<u32, u8> {
+        self.call(8, 0, 0, line)
+    }
+
+    pub fn back(&mut self, steps: u32) -> Result<u32, u8> {
+        self.call(10, 0, 0, steps)
+    }
+
+    pub fn state(&mut self) -> &mut State {
+        &mut self.0.state
+    }
+
+    pub fn vram(&mut self) -> &mut [u8] {
+        &mut self.0.vram.bytes
+    }
+
+    /// Shows a 320 pixel screen: sprites at 8000h, A at E000h, B at C000h, window and scroll at F000h.
+    pub fn screen() -> Bench {
+        let mut bench = Bench::new();
+        bench.control(&[0x8004, 0x8144, 0x8540, 0x8C81, 0x8238, 0x8406, 0x833C, 0x8D3C]);
+        bench
+    }
+
+    /// Writes a sprite to the table that register 5 names.
+    pub fn sprite(&mut self, number: usize, y: u16, size: u8, link: u8, cell: u16, x: u16) {
+        let at = 512 * usize::from(self.state().registers[5]) + 8 * number;
+        let (y, cell, x) = (y.to_be_bytes(), cell.to_be_bytes(), x.to_be_bytes());
+        let bytes = [y[0], y[1], size, link, cell[0], cell[1], x[0], x[1]];
+        self.vram()[at..at + 8].copy_from_slice(&bytes);
+    }
+
+    /// Makes a pattern of one pixel value.
+    pub fn pattern(&mut self, name: usize, pixel: u8) {
+        self.vram()[32 * name..32 * name + 32].fill(17 * pixel);
+    }
+}
