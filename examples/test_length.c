@@ -1,6 +1,6 @@
-/* Tests of DMA at its longest, which registers 19 and 20 ask for while both are 0: a fill, a copy and a transfer, in one
- * run and in two, recorded and taken back. What VRAM must hold at the end is worked out here byte by byte, and each is
- * chosen so that the last unit can be told from those before it. */
+/* Tests of DMA at its longest, which registers 19 and 20 ask for while both are 0: a fill, a copy and a transfer, in
+ * one run and in two, recorded and taken back. What VRAM must hold at the end is worked out here byte by byte, and each
+ * is chosen so that the last unit can be told from those before it. */
 #include "testing.h"
 
 enum { UNITS = KUTHBAREEN_MOST_UNITS, TAPE_SIZE = UNITS * KUTHBAREEN_RECORD_SIZE };
@@ -93,14 +93,16 @@ static void begin(chip *on, const work *w)
     expect("units remaining", on->state.control.dma.remaining, UNITS);
 }
 
-/* All units in one run, whatever the budget is above them. */
+/* All units in one run, whatever the budget is above them. They take the address all the way round. */
 static void in_one_run(chip *on, const work *w)
 {
     size_t i, wrong = 0;
+    uint16_t address = on->state.control.port.address;
     kuthbareen_answer a = run(on, UNITS + 1);
     expect("a run of all", a.number, KUTHBAREEN_DONE);
     expect("units made", a.result, UNITS);
     expect("kind after the last", on->state.control.dma.kind, 0);
+    expect("address after the last", on->state.control.port.address, address);
     for (i = 0; i < sizeof on->vram; i++)
         wrong += on->vram[i] != w->byte_at(i);
     expect("bytes that are wrong at the end", wrong, 0);
@@ -117,22 +119,38 @@ static void in_two_runs(chip *on, const chip *end)
     expect_same("in two runs", on, end);
 }
 
-/* A tape with one record too few refuses; one with just enough holds each unit's own remaining. */
-static void recorded(chip *on, const chip *begun, const chip *end)
+/* A tape with one record too few refuses, and stays as it is. */
+static void no_room(chip *on, const chip *begun)
 {
-    const uint8_t *last = tape + TAPE_SIZE - KUTHBAREEN_RECORD_SIZE;
-    kuthbareen_recorded r = recorded_run(on, TAPE_SIZE - 1, UNITS);
+    static uint8_t before[TAPE_SIZE];
+    kuthbareen_recorded r;
+    memcpy(before, tape, sizeof tape);
+    r = recorded_run(on, TAPE_SIZE - 1, UNITS);
     expect("one record too few", r.number, KUTHBAREEN_TAPE_FULL);
+    expect("its result", r.result, 0);
     expect("its count", r.count, 0);
+    expect("its tape", memcmp(tape, before, sizeof tape), 0);
     expect_same("a refused run", on, begun);
-    r = recorded_run(on, TAPE_SIZE, UINT32_MAX);
+}
+
+/* The units remaining in a record of the tape, the lowest being number 0. */
+static uint32_t remaining_in(size_t number)
+{
+    const uint8_t *bytes = tape + number * KUTHBAREEN_RECORD_SIZE + 13;
+    return bytes[0] * 65536u + bytes[1] * 256u + bytes[2];
+}
+
+/* A tape with just enough has each unit's own remaining. */
+static void recorded(chip *on, const chip *end)
+{
+    kuthbareen_recorded r = recorded_run(on, TAPE_SIZE, UINT32_MAX);
     expect("recorded", r.number, KUTHBAREEN_DONE);
     expect("units recorded", r.result, UNITS);
     expect("count", r.count, UNITS);
     expect_same("recorded", on, end);
     expect("version", tape[0], 1);
-    expect("remaining in the first record", tape[13] * 65536u + tape[14] * 256u + tape[15], UNITS);
-    expect("remaining in the last record", last[13] * 65536u + last[14] * 256u + last[15], 1);
+    expect("remaining in the first record", remaining_in(0), UNITS);
+    expect("remaining in the last record", remaining_in(UNITS - 1), 1);
 }
 
 /* Half of the units are taken back, and then the rest; not while a record has one unit too many. */
@@ -174,7 +192,8 @@ int main(void)
         held = begun;
         in_two_runs(&held, &end);
         held = begun;
-        recorded(&held, &begun, &end);
+        no_room(&held, &begun);
+        recorded(&held, &end);
         taken_back(&held, &begun);
         one_more(&begun);
     }

@@ -55,10 +55,11 @@ filled = ended (written 0x1234 (chip (controls (0x8f01 ∷ 0x9304 ∷ 0x9400 ∷
 abbrev pub copying : State
 copying = controls (0x8f01 ∷ 0x9303 ∷ 0x9400 ∷ 0x97c0 ∷ 0x8114 ∷ 0x0001 ∷ 0x00c0 ∷ []) start
 
--- "registers 19 and 20 zero": a transfer, a copy, a fill that has its word
+-- DMA asked for "with registers 19 and 20 zero", by the word for register 23 and the two halves of a command
 abbrev pub zeroLength : ℕ → ℕ → ℕ → State
-zeroLength kind firstHalf secondHalf = controls (0x8114 ∷ 0x9300 ∷ 0x9400 ∷ kind ∷ firstHalf ∷ secondHalf ∷ []) start
+zeroLength register23 firstHalf secondHalf = controls (0x8114 ∷ 0x9300 ∷ 0x9400 ∷ register23 ∷ firstHalf ∷ secondHalf ∷ []) start
 
+-- so "a transfer, a copy and a fill": the transfer from work RAM, the fill with its data word
 abbrev pub longest : List State
 longest =
     zeroLength 0x9770 0x4000 0x0080

@@ -142,7 +142,7 @@ fn begin_copy(maker: &mut Maker, length: u16) {
 pub fn begin_longest(maker: &mut Maker) {
     match maker.below(4) {
         0 | 1 => {
-            maker.length(CARTRIDGE, 131_072);
+            maker.length(CARTRIDGE, 2 * UNITS_MOST);
             let source = maker.pick(&[0, 2, 0xE0_0000, 0xFF_0000, 0xFF_FFFC, 0xFF_FFFE]);
             begin_transfer(maker, source, 0);
         }
