@@ -139,6 +139,11 @@ pub fn data_writes(m: &mut Machine) {
     m.control(&[0x8F02, 0x4000, 0x0000]);
 }
 
+// The same to colour memory.
+pub fn data_writes_to_colours(m: &mut Machine) {
+    m.control(&[0x8F02, 0xC000, 0x0000]);
+}
+
 // Data writes that have been recorded, from the same beginning.
 pub fn recorded_writes(m: &mut Machine) {
     data_writes(m);

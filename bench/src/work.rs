@@ -24,8 +24,17 @@ pub fn all() -> Vec<Work> {
         run("copy", machine::copy),
         run("transfer to VRAM", machine::transfer_to_vram),
         run("transfer to colours", machine::transfer_to_colours),
-        writes("data write", plain_writes),
-        writes("data write, plain asks GOOD", plain_writes_asking_good),
+        writes("data write", machine::data_writes, plain_writes),
+        writes(
+            "data write, plain asks GOOD",
+            machine::data_writes,
+            plain_writes_asking_good,
+        ),
+        writes(
+            "data write to colours, plain asks GOOD",
+            machine::data_writes_to_colours,
+            plain_writes_asking_good,
+        ),
         Work {
             name: "line",
             units: LINES as u32,
@@ -67,11 +76,15 @@ fn run(name: &'static str, make_ready: fn(&mut Machine)) -> Work {
     }
 }
 
-fn writes(name: &'static str, plain: fn(&mut Machine) -> Answer) -> Work {
+fn writes(
+    name: &'static str,
+    make_ready: fn(&mut Machine),
+    plain: fn(&mut Machine) -> Answer,
+) -> Work {
     Work {
         name,
         units: DATA_WRITES,
-        make_ready: machine::data_writes,
+        make_ready,
         ours: our_writes,
         plain,
     }

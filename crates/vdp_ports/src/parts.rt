@@ -1,12 +1,8 @@
-// A colour word's three parts (definition, Calls for a host program; notes s9 and s17).
+// A colour word's three parts, as register 0 lets them show (definition, Calls for a host program; notes s17).
 ghost use mathlib.Core.Path.{_≡_};
 ghost use Rattle.vdp_ports.specs.Parts.{shown as shownPart, colourParts};
-
-pub struct Parts {
-    pub blue: u8,
-    pub green: u8,
-    pub red: u8,
-}
+use vdp_state::colour::Parts;
+use vdp_state::colour::parts_of;
 
 // A part as the chip shows it: with register 0 bit 2 clear, its lowest bit alone.
 fn shown(register0: u8, part: u8) -> u8
@@ -23,9 +19,10 @@ fn shown(register0: u8, part: u8) -> u8
 pub fn colour_parts(w: u16, register0: u8) -> Parts
     ensures { λ r. ⌜ r ≡ colourParts w register0 ⌝ }
 {
+    let parts = parts_of(w);
     Parts {
-        blue: shown(register0, (w / 512 % 8) as u8),
-        green: shown(register0, (w / 32 % 8) as u8),
-        red: shown(register0, (w / 2 % 8) as u8),
+        blue: shown(register0, parts.blue),
+        green: shown(register0, parts.green),
+        red: shown(register0, parts.red),
     }
 }
