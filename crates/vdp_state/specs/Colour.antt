@@ -17,6 +17,6 @@ red w = w / 2 % 8  -- bits 3-1
 abbrev pub partsOf : ℕ → Parts
 partsOf w = record { blue = blue w; green = green w; red = red w }
 
--- "The bits of 0EEEh of a word are its three parts, joined with each where it was; the other bits are 0."
+-- "The bits of 0EEEh of a word are its three parts joined, each where it was, with 0 in the other bits."
 unfoldable pub colourWord : ℕ → ℕ
 colourWord w = blue w * 512 + green w * 32 + red w * 2
