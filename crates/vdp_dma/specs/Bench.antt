@@ -5,6 +5,7 @@ use mathlib.Core.List.{List, [], _∷_, map}
 use lib.ListN.{set, take, replicate}
 use Rattle.vdp_state.specs.declared.state.State.{State}
 use Rattle.vdp_state.specs.Answer.{Outcome}
+use Rattle.vdp_state.specs.Colour.{blue, green, red}
 use Rattle.vdp_state.specs.Fresh.{fresh}
 use Rattle.vdp_state.specs.Good.{mostUnits}
 use Rattle.vdp_state.specs.Same.{same}
@@ -98,6 +99,9 @@ table =
     ∷ gives (bytesAndAddress 2 (written 0x1234 (chip (accessed 0x4001 0x0000) zeros))) (3 ∷ 0x34 ∷ 0x12 ∷ [])
     -- FFFFh at colour 0080h: entry 0 = 0EEEh
     ∷ gives (take 2 (written 0xffff (chip (accessed 0xc080 0x0000) zeros) .state .cram)) (0x0eee ∷ 0 ∷ [])
+    -- F79Dh at colour 0000h: entry 0 = 068Ch; blue 3, green 4, red 6
+    ∷ gives (take 1 (written 0xf79d (chip (accessed 0xc000 0x0000) zeros) .state .cram)) (0x068c ∷ [])
+    ∷ gives (blue 0xf79d ∷ green 0xf79d ∷ red 0xf79d ∷ []) (3 ∷ 4 ∷ 6 ∷ [])
     -- scroll 004Eh is word 39
     ∷ gives (scrollsAndAddress (written 0x0155 (chip (accessed 0x404e 0x0010) zeros) .state)) (0x0050 ∷ set (replicate 40 0) 39 0x155)
     -- 0050h stores nothing, address moves
