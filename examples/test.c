@@ -156,7 +156,7 @@ static void arrays(void)
     expect("scroll 40 is absent", data_read(&chip), 0);
 }
 
-/* The port, the flags and PAL. */
+/* The port and PAL. */
 static void port(void)
 {
     kuthbareen_state chip = kuthbareen_fresh(true), zero;
@@ -166,14 +166,6 @@ static void port(void)
     expect("status, PAL", kuthbareen_status_read(&chip).result, 0x3601);
     chip.pal = false;
     expect("status", kuthbareen_status_read(&chip).result, 0x3600);
-    chip.control.flags.overflow = true;
-    expect("overflow", kuthbareen_status_read(&chip).result, 0x3640);
-    chip.control.flags.overflow = false;
-    chip.control.flags.collision = true;
-    expect("collision", kuthbareen_status_read(&chip).result, 0x3620);
-    chip.control.flags.overflow = true;
-    expect("new frame", kuthbareen_new_frame(&chip).number, 0);
-    expect("flags cleared", chip.control.flags.overflow || chip.control.flags.collision, 0);
     kuthbareen_control_write(&chip, 0x4000 + 0x1234);
     expect("pending", chip.control.port.pending, 1);
     kuthbareen_control_write(&chip, 0x0003);
@@ -190,10 +182,32 @@ static void port(void)
     expect("low byte", vram[0x9235], 0xC3);
 }
 
-/* Refused port accesses leave the state as it came. */
+/* The flags: a status read shows them as they were and clears them and pending, a new frame clears them alone. */
+static void flags(void)
+{
+    unsigned set;
+    for (set = 0; set < 4; set++) {
+        kuthbareen_state fresh = kuthbareen_fresh(false), flagged = fresh, chip;
+        fresh.registers[15] = flagged.registers[15] = 2;
+        flagged.control.flags.overflow = set & 1;
+        flagged.control.flags.collision = set >> 1;
+        flagged.control.port.pending = true;
+        chip = flagged;
+        expect("flags read", kuthbareen_status_read(&chip).result, 0x3600 + (set & 1) * 0x40 + (set >> 1) * 0x20);
+        expect("flags and pending cleared", same_state(&chip, &fresh), 1);
+        expect("read again", kuthbareen_status_read(&chip).result, 0x3600);
+        chip = flagged;
+        fresh.control.port.pending = true;
+        expect("new frame", kuthbareen_new_frame(&chip).number, 0);
+        expect("flags cleared", same_state(&chip, &fresh), 1);
+    }
+}
+
+/* Refused port accesses leave the state as it came, a status read the flags too. */
 static void refusals(void)
 {
     kuthbareen_state chip = kuthbareen_fresh(false), before;
+    chip.control.flags.overflow = chip.control.flags.collision = true;
     chip.control.port.code = 64;
     before = chip;
     expect("code 64 is bad", kuthbareen_status_read(&chip).number, KUTHBAREEN_BAD_STATE);
@@ -267,6 +281,7 @@ int main(void)
     patterns();
     arrays();
     port();
+    flags();
     refusals();
     fill_and_copy();
     transfer();

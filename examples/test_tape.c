@@ -262,7 +262,8 @@ static void random_call(void)
         break;
     case 9:
         record(right(LINE, below(4) ? 40 + below(32) : below(230)));
-        record(right(FRAME, 0));
+        if (below(3))
+            record(right(below(2) ? STATUS : FRAME, 0));
         break;
     default:
         step_back(below(8) ? below(6) : below(2) ? some : count + below(2));
@@ -299,10 +300,12 @@ static void random_calls(void)
     }
 }
 
-/* A state in which each call would be done, with three records on the tape. */
+/* A state in which each call would be done, with both sprite flags set and three records on the tape. */
 static void begin_ready(void)
 {
     begin(false);
+    held.state.control.flags.overflow = held.state.control.flags.collision = true;
+    present.state = held.state;
     record(right(CONTROL, 0x8004));
     record(right(CONTROL, 0x8144));
     record(right(CONTROL, 0x8F02));
@@ -433,6 +436,29 @@ static void no_step_back(void)
     step_back(count);
 }
 
+/* 1 if overflow is set, plus 2 if collision is. */
+static unsigned flags(void)
+{
+    return held.state.control.flags.overflow + 2u * held.state.control.flags.collision;
+}
+
+/* A status read and a new frame clear the sprite flags, and a step back over one of them gives them back. */
+static void cleared_flags(void)
+{
+    static const enum op ops[] = {STATUS, FRAME};
+    unsigned i;
+    begin_ready();
+    for (i = 0; i < 2; i++) {
+        record(right(ops[i], 0));
+        expect("cleared", flags(), 0);
+        record(right(STATUS, 0));
+        step_back(1);
+        expect("clear at the second", flags(), 0);
+        step_back(1);
+        expect("given back", flags(), 3);
+    }
+}
+
 int main(void)
 {
     unsigned i;
@@ -447,5 +473,6 @@ int main(void)
     lines_and_sources();
     full_tape();
     no_step_back();
+    cleared_flags();
     return tested();
 }

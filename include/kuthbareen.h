@@ -121,7 +121,7 @@ kuthbareen_answer kuthbareen_data_write_byte(kuthbareen_state *state, uint8_t *v
 /* Reads a word from the data port: the result. */
 kuthbareen_answer kuthbareen_data_read(kuthbareen_state *state, const uint8_t *vram, size_t vram_size);
 
-/* Reads the status word: the result. */
+/* Reads the status word: the result, as it was before the read. Then clears pending and the sprite flags. */
 kuthbareen_answer kuthbareen_status_read(kuthbareen_state *state);
 
 /* Begins a new frame: clears the sprite flags. */

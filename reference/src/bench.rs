@@ -25,6 +25,14 @@ impl Bench {
         assert_eq!(self.call(3, 0, word, 0), Ok(0));
     }
 
+    pub fn status(&mut self) -> Result<u32, u8> {
+        self.call(6, 0, 0, 0)
+    }
+
+    pub fn frame(&mut self) -> Result<u32, u8> {
+        self.call(9, 0, 0, 0)
+    }
+
     pub fn run(&mut self, budget: u32) -> Result<u32, u8> {
         self.call(7, 0, 0, budget)
     }
@@ -58,6 +66,16 @@ impl Bench {
         let (y, cell, x) = (y.to_be_bytes(), cell.to_be_bytes(), x.to_be_bytes());
         let bytes = [y[0], y[1], size, link, cell[0], cell[1], x[0], x[1]];
         self.vram()[at..at + 8].copy_from_slice(&bytes);
+    }
+
+    /// A screen with so many sprites on lines 0 to 7, each linked to the next, all of pattern 1.
+    pub fn row_of_sprites(sprites: u8) -> Bench {
+        let mut bench = Bench::screen();
+        for number in 0..sprites {
+            let link = if number + 1 == sprites { 0 } else { number + 1 };
+            bench.sprite(usize::from(number), 128, 0, link, 1, 200);
+        }
+        bench
     }
 
     /// Makes a pattern of one pixel value.

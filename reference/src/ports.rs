@@ -124,9 +124,16 @@ fn vram_word(vram: &Vram, address: u16) -> u16 {
     u16::from_be_bytes([vram[even], vram[even + 1]])
 }
 
-/// Status read: only the modelled bits, the rest as on an idle chip.
+/// Status read: the word as it was before the read, which clears pending and both sprite flags.
 pub fn status_read(state: &mut State) -> u16 {
+    let word = status_word(state);
     state.pending = false;
+    clear_sprite_flags(state);
+    word
+}
+
+/// Only the modelled bits, the rest as on an idle chip.
+fn status_word(state: &State) -> u16 {
     let bit = |set: bool, value: u16| if set { value } else { 0 };
     0x3600
         + bit(state.overflow, 0x40)
@@ -135,8 +142,12 @@ pub fn status_read(state: &mut State) -> u16 {
         + bit(state.pal, 1)
 }
 
-/// A new frame begins with both sprite flags clear.
+/// A new frame begins with both sprite flags clear; a half that is awaited stays so.
 pub fn new_frame(state: &mut State) {
+    clear_sprite_flags(state);
+}
+
+fn clear_sprite_flags(state: &mut State) {
     state.overflow = false;
     state.collision = false;
 }

@@ -81,18 +81,13 @@ fn address_turns_past_ffffh() {
 #[test]
 fn status_words() {
     let mut bench = Bench::new();
-    assert_eq!(bench.call(6, 0, 0, 0), Ok(0x3600));
+    assert_eq!(bench.status(), Ok(0x3600));
     bench.state().pal = true;
-    assert_eq!(bench.call(6, 0, 0, 0), Ok(0x3601));
+    assert_eq!(bench.status(), Ok(0x3601));
     bench.state().pal = false;
     bench.control(&[0x8110, 0x9301, 0x97C0, 0x0000, 0x00C0]);
     assert_eq!(bench.state().kind, COPY);
-    assert_eq!(bench.call(6, 0, 0, 0), Ok(0x3602));
-    bench.state().overflow = true;
-    bench.state().collision = true;
-    assert_eq!(bench.call(6, 0, 0, 0), Ok(0x3662));
-    assert_eq!(bench.call(9, 0, 0, 0), Ok(0));
-    assert_eq!(bench.call(6, 0, 0, 0), Ok(0x3602));
+    assert_eq!(bench.status(), Ok(0x3602));
 }
 
 #[test]
@@ -134,11 +129,7 @@ fn sprite_of_one_cell_is_on_eight_lines() {
 #[test]
 fn twenty_sprites_fit_and_a_21st_overflows() {
     for (sprites, overflow) in [(20, false), (21, true)] {
-        let mut bench = Bench::screen();
-        for number in 0..sprites {
-            let link = if number + 1 == sprites { 0 } else { number + 1 };
-            bench.sprite(number as usize, 128, 0, link, 1, 200);
-        }
+        let mut bench = Bench::row_of_sprites(sprites);
         assert_eq!(bench.line(0), Ok(u32::from(sprites)));
         assert_eq!(bench.state().overflow, overflow);
     }
@@ -332,7 +323,7 @@ fn transfer_source_turns_at_the_top() {
     assert_eq!((bench.state().kind, bench.state().source), (TRANSFER, 0xFF_FFFE));
     assert_eq!(bench.run(1), Ok(1));
     assert_eq!(bench.state().source, 0xFF_0000);
-    assert_eq!(bench.call(6, 0, 0, 0), Err(BUSY));
+    assert_eq!(bench.status(), Err(BUSY));
     assert_eq!(bench.run(1), Ok(1));
     assert_eq!(bench.vram()[..4], [0x12, 0x34, 0x56, 0x78]);
 }
@@ -382,7 +373,7 @@ fn step_back_inside_a_recorded_copy() {
     let before = bench.state().clone();
     assert_eq!(bench.run(3), Ok(3));
     assert_eq!(bench.run(3), Ok(0));
-    assert_eq!(bench.call(9, 0, 0, 0), Err(TAPE_FULL));
+    assert_eq!(bench.frame(), Err(TAPE_FULL));
     assert_eq!(bench.0.tape.bytes[..16], [1, 0, 32, 1, 0, 0, 0xAA, 0, 0, 1, 0x30, 0, 4, 0, 0, 3]);
     assert_eq!(bench.back(2), Ok(0));
     assert_eq!((bench.0.count, bench.state().remaining), (1, 2));
@@ -405,8 +396,8 @@ fn steps_that_store_nothing_have_no_cell() {
     bench.control(&[0x4050, 0x8F10, 0x9855]);
     bench.write(0xFFFF);
     assert_eq!(bench.call(5, 0, 0, 0), Ok(0));
-    assert_eq!(bench.call(6, 0, 0, 0), Ok(0x3600));
-    assert_eq!(bench.call(9, 0, 0, 0), Ok(0));
+    assert_eq!(bench.status(), Ok(0x3600));
+    assert_eq!(bench.frame(), Ok(0));
     assert_eq!(bench.0.count, 7);
     for record in bench.0.tape.bytes.chunks(32).take(7) {
         assert_eq!(record[..8], [1, 0, 32, 0, 0, 0, 0, 0]);

@@ -9,9 +9,10 @@ use Rattle.vdp_state.specs.Colour.{blue, green, red}
 use Rattle.vdp_state.specs.Fresh.{fresh}
 use Rattle.vdp_state.specs.Good.{mostUnits}
 use Rattle.vdp_state.specs.Same.{same}
-use Rattle.vdp_state.specs.State.{Chip, chip}
+use Rattle.vdp_state.specs.State.{Chip, chip, withControl, withFlags}
 use Rattle.vdp_ports.specs.Control.{controlWrite}
 use Rattle.vdp_ports.specs.Data.{dataWrite}
+use Rattle.vdp_ports.specs.Frame.{newFrame}
 use Rattle.vdp_ports.specs.Length.{register}
 use Rattle.vdp_ports.specs.Status.{statusRead}
 use Rattle.vdp_dma.specs.Run.{run}
@@ -55,6 +56,10 @@ filled = ended (written 0x1234 (chip (controls (0x8f01 ∷ 0x9304 ∷ 0x9400 ∷
 -- "VRAM AA 00 00 00 00, a copy from 0 to 1, step 1, length 3"
 abbrev pub copying : State
 copying = controls (0x8f01 ∷ 0x9303 ∷ 0x9400 ∷ 0x97c0 ∷ 0x8114 ∷ 0x0001 ∷ 0x00c0 ∷ []) start
+
+-- "overflow and collision set"
+abbrev pub flagged : State
+flagged = withControl start (withFlags (start .control) (record { overflow = true; collision = true }))
 
 -- DMA asked for "with registers 19 and 20 zero", by the word for register 23 and the two halves of a command
 abbrev pub zeroLength : ℕ → ℕ → ℕ → State
@@ -110,6 +115,9 @@ table =
     ∷ gives (bytesAndAddress 1 (written 0x0000 (chip (accessed 0x7ffe 0x0003) zeros))) (0x0000 ∷ 0 ∷ [])
     -- fresh status 3600h, PAL 3601h; 3602h in a copy
     ∷ gives (statusRead start .result ∷ statusRead (fresh true) .result ∷ statusRead copying .result ∷ []) (0x3600 ∷ 0x3601 ∷ 0x3602 ∷ [])
+    -- both flags set: 3660h, then 3600h; 3600h after a new frame
+    ∷ gives (statusRead flagged .result ∷ statusRead (statusRead flagged .state) .result ∷ []) (0x3660 ∷ 0x3600 ∷ [])
+    ∷ gives (statusRead (newFrame flagged .state) .result ∷ []) (0x3600 ∷ [])
     -- the fill: 12 34 12 12 00 12, address 5
     ∷ gives (bytesAndAddress 6 filled) (5 ∷ 0x12 ∷ 0x34 ∷ 0x12 ∷ 0x12 ∷ 0x00 ∷ 0x12 ∷ [])
     -- the copy: four AA

@@ -19,7 +19,7 @@ use Rattle.vdp_ports.specs.Refusal.{badState, badVram, busy}
 abbrev pub advanced : Port → ℕ → Port
 advanced p increment = record { address = (p .address + increment) % 65536; code = p .code; pending = p .pending }
 
--- a data access "clears pending, whatever its code", and "A status read clears pending"
+-- a data access "clears pending, whatever its code", and so does a status read
 abbrev pub settled : Port → Port
 settled p = record { address = p .address; code = p .code; pending = false }
 

@@ -1,13 +1,14 @@
--- The status word: definition, Ports.
+-- The status word and what reading it clears: definition, Ports.
 use Prim.Native.Nat.{ℕ, _+_}
-use mathlib.Core.Bool.{Bool, cond}
+use mathlib.Core.Bool.{Bool, false, cond}
 use mathlib.Core.List.{List, [], _∷_}
 use Rattle.vdp_state.specs.declared.answer.Answer.{Answer}
+use Rattle.vdp_state.specs.declared.state.Control.{Control}
 use Rattle.vdp_state.specs.declared.state.State.{State}
 use Rattle.vdp_state.specs.declared.state.Step.{Step}
 use Rattle.vdp_state.specs.declared.state.Store.the-variants.{Nothing}
 use Rattle.vdp_state.specs.Answer.{Test, first, answered}
-use Rattle.vdp_state.specs.State.{withPort}
+use Rattle.vdp_state.specs.State.{withPort, withFlags}
 use Rattle.vdp_ports.specs.Data.{settled}
 use Rattle.vdp_ports.specs.Refusal.{badState, busyAtStatus, filling}
 
@@ -21,11 +22,17 @@ statusWord s =
     0x3600 + flag (s .control .flags .overflow) 0x40 + flag (s .control .flags .collision) 0x20 + flag (filling s) 2
     + flag (s .pal) 1
 
+-- a status read and a new frame both clear "overflow and collision"
+abbrev pub flagsCleared : Control → Control
+flagsCleared c = withFlags c (record { overflow = false; collision = false })
+
+-- "Then it clears pending, overflow and collision, and changes nothing else."
 abbrev pub statusStep : State → Step
-statusStep s = record { control = withPort (s .control) (settled (s .control .port)); store = Nothing }
+statusStep s = record { control = flagsCleared (withPort (s .control) (settled (s .control .port))); store = Nothing }
 
 abbrev pub statusTests : State → List Test
 statusTests s = badState s ∷ busyAtStatus s ∷ []
 
+-- "A status read gives the status word as it was before the read."
 abbrev pub statusRead : State → Answer
 statusRead s = answered (first (statusTests s)) s (statusStep s) (statusWord s)

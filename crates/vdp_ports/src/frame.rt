@@ -2,12 +2,12 @@
 ghost use mathlib.Core.Path.{_≡_};
 ghost use Rattle.vdp_state.specs.Answer.{first};
 ghost use Rattle.vdp_ports.specs.Frame.{frameStep, frameTests, newFrame};
+use crate::status::flags_cleared;
 use vdp_state::answer::Answer;
 use vdp_state::answer::BAD_STATE;
 use vdp_state::answer::DONE;
 use vdp_state::answer::answered;
 use vdp_state::good::good;
-use vdp_state::state::Flags;
 use vdp_state::state::State;
 use vdp_state::state::Step;
 use vdp_state::state::Store;
@@ -16,14 +16,9 @@ use vdp_state::state::Store;
 pub fn frame_step(s: State) -> Step
     ensures { λ r. ⌜ r ≡ frameStep s ⌝ }
 {
-    let flags = Flags {
-        overflow: false,
-        collision: false,
-    };
-    let mut control = s.control;
-    control.flags = flags;
+    let cleared = flags_cleared(s.control);
     Step {
-        control,
+        control: cleared,
         store: Store::Nothing,
     }
 }

@@ -1,7 +1,7 @@
-// The status word (definition, Ports).
+// The status word and what reading it clears (definition, Ports).
 ghost use mathlib.Core.Path.{_≡_};
 ghost use Rattle.vdp_state.specs.Answer.{first};
-ghost use Rattle.vdp_ports.specs.Status.{flag as flagged, statusWord, statusStep, statusTests, statusRead};
+ghost use Rattle.vdp_ports.specs.Status.{flag as flagged, statusWord, flagsCleared, statusStep, statusTests, statusRead};
 use crate::refusal::filling;
 use crate::refusal::transferring;
 use vdp_state::answer::Answer;
@@ -10,6 +10,8 @@ use vdp_state::answer::BUSY;
 use vdp_state::answer::DONE;
 use vdp_state::answer::answered;
 use vdp_state::good::good;
+use vdp_state::state::Control;
+use vdp_state::state::Flags;
 use vdp_state::state::State;
 use vdp_state::state::Step;
 use vdp_state::state::Store;
@@ -33,7 +35,20 @@ pub fn status_word(s: State) -> u16
     0x3600 + overflow + collision + busy + pal
 }
 
-// What a status read decides.
+// The control part with both sprite flags cleared, as a status read and a new frame leave them.
+pub fn flags_cleared(control: Control) -> Control
+    ensures { λ r. ⌜ r ≡ flagsCleared control ⌝ }
+{
+    let flags = Flags {
+        overflow: false,
+        collision: false,
+    };
+    let mut cleared = control;
+    cleared.flags = flags;
+    cleared
+}
+
+// What a status read decides: pending and both sprite flags are cleared.
 pub fn status_step(s: State) -> Step
     ensures { λ r. ⌜ r ≡ statusStep s ⌝ }
 {
@@ -41,8 +56,9 @@ pub fn status_step(s: State) -> Step
     port.pending = false;
     let mut control = s.control;
     control.port = port;
+    let cleared = flags_cleared(control);
     Step {
-        control,
+        control: cleared,
         store: Store::Nothing,
     }
 }
@@ -57,7 +73,7 @@ pub fn status_number(s: State) -> u8
     if transferring(s) { BUSY } else { DONE }
 }
 
-// Reads the status word.
+// Reads the status word, as it is before the flags are cleared.
 pub fn status_read(s: State) -> Answer
     ensures { λ r. ⌜ r ≡ statusRead s ⌝ }
 {

@@ -1,6 +1,8 @@
 //! Which answers and rules streams meet, and which they never meet.
-//! The counts come from looking at each call from outside, before and after it.
+//! The counts come from looking at each call from outside, before and after it; for the sprite
+//! flags also from what the calls before it did.
 
+mod flags;
 mod lines;
 mod ports;
 mod refused;
@@ -12,6 +14,7 @@ use crate::answer::Answer;
 use crate::check::number_in;
 use crate::replay::{Command, Machine};
 use crate::tape::{Record, RECORD_BYTES};
+use flags::Flags;
 
 /// The answers that each op may give (definition, Numbers a call may answer).
 const ANSWERS: [(u8, &[Answer]); 12] = [
@@ -44,8 +47,8 @@ impl Tally {
             }
         }
         let calls = (1..=9).map(recorded).collect();
-        let named = [calls, ports::rules(), runs::rules(), lines::rules(), refused::rules()];
-        for rule in named.concat() {
+        let one_call = [calls, ports::rules(), runs::rules(), lines::rules(), refused::rules()];
+        for rule in one_call.concat().into_iter().chain(flags::rules()) {
             tally.rules.insert(rule, 0);
         }
         tally
@@ -66,20 +69,23 @@ impl Tally {
     /// Follows a stream and counts what it meets.
     pub fn follow(&mut self, commands: &[Command]) {
         let mut machine = Machine::new();
+        let mut flags = Flags::default();
         for command in commands {
             if (1..=12).contains(&command.op) {
-                self.call(&mut machine, command);
+                self.call(&mut machine, &mut flags, command);
             } else if command.op != 48 {
                 machine.apply(command);
+                flags.set_up(command);
             }
         }
     }
 
-    fn call(&mut self, machine: &mut Machine, command: &Command) {
+    fn call(&mut self, machine: &mut Machine, flags: &mut Flags, command: &Command) {
         let before = Before { machine: machine.clone(), command: *command };
         let line = machine.apply(command).unwrap_or_default();
         let number = number_in(&line).unwrap_or(0);
         *self.answers.entry((command.op, number)).or_insert(0) += 1;
+        flags.count(self, &before, machine, number);
         if number != 0 {
             refused::count(self, &before, number);
             return;

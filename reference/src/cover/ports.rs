@@ -34,6 +34,10 @@ const RULES: &[&str] = &[
     "address turns past FFFFh",
     "data access clears pending",
     "status read clears pending",
+    "status read clears overflow alone",
+    "status read clears collision alone",
+    "status read clears both flags",
+    "status read clears pending and a flag",
     "fill begins",
     "fill begins under another code",
     "fill begins with length zero",
@@ -41,10 +45,11 @@ const RULES: &[&str] = &[
     "status in a waiting fill",
     "status in a fill",
     "status in a copy",
-    "status overflow",
-    "status collision",
+    "status in a fill with a flag set",
+    "status in a copy with a flag set",
     "status PAL",
     "new frame clears a flag",
+    "new frame clears a flag and keeps pending",
     "new frame while DMA runs",
     "colour parts, all bits",
     "colour parts, lowest bits",
@@ -71,7 +76,9 @@ pub fn count(tally: &mut Tally, before: &Before) {
         5 => read(tally, state),
         6 => status(tally, state),
         9 => {
-            tally.meet_if(state.overflow || state.collision, "new frame clears a flag");
+            let flag = state.overflow || state.collision;
+            tally.meet_if(flag, "new frame clears a flag");
+            tally.meet_if(flag && state.pending, "new frame clears a flag and keeps pending");
             tally.meet_if(state.running(), "new frame while DMA runs");
         }
         _ => {
@@ -167,11 +174,17 @@ fn access(tally: &mut Tally, state: &State) {
 }
 
 fn status(tally: &mut Tally, state: &State) {
+    let (overflow, collision) = (state.overflow, state.collision);
+    let flag = overflow || collision;
     tally.meet_if(state.pending, "status read clears pending");
+    tally.meet_if(overflow && !collision, "status read clears overflow alone");
+    tally.meet_if(collision && !overflow, "status read clears collision alone");
+    tally.meet_if(overflow && collision, "status read clears both flags");
+    tally.meet_if(flag && state.pending, "status read clears pending and a flag");
     tally.meet_if(state.kind == FILL_WAITING, "status in a waiting fill");
     tally.meet_if(state.kind == FILL, "status in a fill");
     tally.meet_if(state.kind == COPY, "status in a copy");
-    tally.meet_if(state.overflow, "status overflow");
-    tally.meet_if(state.collision, "status collision");
+    tally.meet_if(flag && state.kind == FILL, "status in a fill with a flag set");
+    tally.meet_if(flag && state.kind == COPY, "status in a copy with a flag set");
     tally.meet_if(state.pal, "status PAL");
 }

@@ -141,8 +141,7 @@ fn lines(maker: &mut Maker) {
         maker.line(line);
     }
     if maker.once_in(8) {
-        maker.status();
-        maker.frame();
+        maker.clear_flags();
     }
 }
 
@@ -180,7 +179,7 @@ fn some_x(maker: &mut Maker) -> u16 {
 /// A ring of few sprites: visited again and again, it meets every limit. The flags are cleared first,
 /// so that it can be seen which ones the lines set.
 fn ring(maker: &mut Maker) {
-    maker.frame();
+    maker.clear_flags();
     let line = maker.below(220);
     let round = 1 + maker.below(5);
     for number in 0..=round {
@@ -333,8 +332,7 @@ fn flags(maker: &mut Maker) {
     maker.field(OVERFLOW, 0, overflow);
     maker.field(COLLISION, 0, collision);
     lines(maker);
-    maker.status();
-    maker.frame();
+    maker.clear_flags();
 }
 
 /// A bad state refuses a line but not a pattern row; a run under way refuses neither.

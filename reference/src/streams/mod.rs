@@ -255,11 +255,28 @@ impl Maker {
         self.control(0x8000 | bit13 | (number % 32) << 8 | u16::from(value));
     }
 
-    /// Ends a half command by a status read.
+    /// Ends a half command by a status read, which also clears the sprite flags.
     pub fn settle(&mut self) {
         if self.machine.state.pending {
             self.status();
         }
+    }
+
+    /// Sets one sprite flag or both by hand.
+    pub fn raise_flags(&mut self) {
+        let (overflow, collision) = self.pick(&[(1, 0), (0, 1), (1, 1)]);
+        self.field(OVERFLOW, 0, overflow);
+        self.field(COLLISION, 0, collision);
+    }
+
+    /// Clears the sprite flags by a new frame or a status read; another status read shows it.
+    pub fn clear_flags(&mut self) {
+        if self.once_in(2) {
+            self.frame();
+        } else {
+            self.status();
+        }
+        self.status();
     }
 
     /// Sets code and address by two control words; the unused bits vary.

@@ -208,9 +208,7 @@ pub fn by_hand(maker: &mut Maker) {
                 let value = maker.below(2);
                 maker.field(field, 0, value);
             }
-            maker.status();
-            maker.frame();
-            maker.status();
+            maker.clear_flags();
         }
         1 => {
             let (word, other) = (maker.word(), maker.byte());

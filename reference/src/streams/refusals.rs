@@ -12,6 +12,9 @@ pub fn fill(maker: &mut Maker) {
     }
     while !maker.full() {
         round(maker);
+        if maker.once_in(8) {
+            refused_read(maker);
+        }
     }
 }
 
@@ -25,6 +28,23 @@ fn round(maker: &mut Maker) {
         call(maker);
     }
     mend(maker);
+}
+
+/// A bad code or a transfer refuses a status read, and the flags that it leaves show in the next.
+fn refused_read(maker: &mut Maker) {
+    maker.raise_flags();
+    if maker.once_in(2) {
+        maker.field(CODE, 0, 64);
+        maker.status();
+        maker.field(CODE, 0, 63);
+    } else {
+        maker.field(DMA_KIND, 0, u32::from(TRANSFER));
+        maker.field(REMAINING, 0, 1);
+        maker.status();
+        maker.calm();
+    }
+    maker.status();
+    maker.status();
 }
 
 /// A good state of any DMA kind, with values at the ends of their ranges.
@@ -56,6 +76,9 @@ pub fn base(maker: &mut Maker) {
     let code = maker.pick(&[0, 1, 3, 5, 0x21]);
     maker.field(CODE, 0, code);
     maker.field(REGISTER, 15, 2);
+    if maker.once_in(3) {
+        maker.raise_flags();
+    }
 }
 
 /// One thing wrong, or in a few cases just at the edge of right.

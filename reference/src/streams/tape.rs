@@ -27,7 +27,7 @@ pub fn fill(maker: &mut Maker) {
 
 /// One phrase of recorded calls.
 pub fn episode(maker: &mut Maker) {
-    match maker.below(33) {
+    match maker.below(34) {
         0..=8 => ports::episode(maker),
         9..=11 => dma::transfer(maker),
         12..=14 => dma::fill_dma(maker),
@@ -48,6 +48,7 @@ pub fn episode(maker: &mut Maker) {
             maker.back(1);
         }
         31 => first_of_the_longest(maker),
+        32 => flagged_reads(maker),
         _ => maker.back(maker.machine.count),
     }
     if maker.once_in(3) {
@@ -297,6 +298,22 @@ fn over_count(maker: &mut Maker) {
     maker.back(0);
     maker.count(count);
     maker.back(0);
+}
+
+/// Status reads with a flag set: one that a full tape or the count refuses, then two that are done,
+/// and a step back over one or both.
+fn flagged_reads(maker: &mut Maker) {
+    rewind(maker);
+    maker.raise_flags();
+    let wrong = capacity(maker) + maker.below(2);
+    maker.count(wrong);
+    maker.status();
+    maker.count(0);
+    maker.status();
+    maker.status();
+    let steps = 1 + maker.below(2);
+    maker.back(steps);
+    maker.status();
 }
 
 fn refused_call(maker: &mut Maker) {

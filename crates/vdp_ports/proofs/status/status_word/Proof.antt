@@ -6,7 +6,7 @@ use Rattle.vdp_ports.proofs.status.status_word.Tie as tie
 
 returns : tie.Need-returns
 unfolding statusWord
-returns c = cc
+returns c = simp (c .flag4 .ensures, c .before .flag3 .ensures, c .before .before .flag2 .ensures, c .before .before .before .flag .ensures, c .before .before .before .before .filling .ensures)
 
 pub status-word-spec : {M : Type 1} → statement M
 status-word-spec =
