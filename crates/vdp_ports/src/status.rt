@@ -36,7 +36,7 @@ pub fn status_word(s: State) -> u16
 }
 
 // The control part with both sprite flags cleared, as a status read and a new frame leave them.
-pub fn flags_cleared(control: Control) -> Control
+pub(crate) fn flags_cleared(control: Control) -> Control
     ensures { λ r. ⌜ r ≡ flagsCleared control ⌝ }
 {
     let flags = Flags {
