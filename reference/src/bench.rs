@@ -53,6 +53,11 @@ impl Bench {
         &mut self.0.vram.bytes
     }
 
+    pub fn assert_same(&self, other: &Bench) {
+        assert_eq!(self.0.state, other.0.state);
+        assert!(self.0.vram.bytes == other.0.vram.bytes, "VRAM differs");
+    }
+
     /// Shows a 320 pixel screen: sprites at 8000h, A at E000h, B at C000h, window and scroll at F000h.
     pub fn screen() -> Bench {
         let mut bench = Bench::new();

@@ -2,7 +2,6 @@
 
 use crate::book::{Book, Call};
 use crate::calls::vram_good;
-use crate::dma::Memories;
 use crate::ports::doubled;
 use crate::replay::{Command, Machine, TAPE, VRAM};
 use crate::state::Vram;
@@ -99,8 +98,6 @@ fn touches(command: &Command) -> bool {
 }
 
 fn call_of<'a>(command: &Command, machine: &'a Machine) -> Option<Call<'a>> {
-    let memories =
-        Memories { cartridge: machine.cartridge.lent(), work_ram: machine.work_ram.lent() };
     match command.op {
         1 => Some(Call::ControlWrite(command.b)),
         2 => Some(Call::ControlWrite(doubled(command.a))),
@@ -108,7 +105,7 @@ fn call_of<'a>(command: &Command, machine: &'a Machine) -> Option<Call<'a>> {
         4 => Some(Call::DataWrite(doubled(command.a))),
         5 => Some(Call::DataRead),
         6 => Some(Call::StatusRead),
-        7 => Some(Call::Run { memories, budget: command.c }),
+        7 => Some(Call::Run { memories: machine.memories(), budget: command.c }),
         8 => Some(Call::Line { pixels: machine.pixels.length, line: command.c }),
         9 => Some(Call::NewFrame),
         10 => Some(Call::StepBack(command.c)),

@@ -18,6 +18,8 @@ mod cover;
 mod dma;
 mod draw;
 #[cfg(test)]
+mod equals;
+#[cfg(test)]
 mod flags;
 #[cfg(test)]
 mod longest;

@@ -99,6 +99,11 @@ impl Machine {
         }
     }
 
+    /// What a run is lent to take words from.
+    pub fn memories(&self) -> Memories<'_> {
+        Memories { cartridge: self.cartridge.lent(), work_ram: self.work_ram.lent() }
+    }
+
     /// Does a command and gives the line it prints, if any.
     pub fn apply(&mut self, command: &Command) -> Option<String> {
         match command.op {

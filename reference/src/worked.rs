@@ -328,6 +328,69 @@ fn transfer_source_turns_at_the_top() {
     assert_eq!(bench.vram()[..4], [0x12, 0x34, 0x56, 0x78]);
 }
 
+/// A transfer of three words from FFFFFCh to FFFEh, step 1. It begins only if register 1 has bit 4.
+fn three_words(register_1: u16) -> Bench {
+    let mut bench = Bench::new();
+    bench.0.work_ram.bytes[0xFFFC..=0xFFFF].copy_from_slice(&[0x11, 0x22, 0x33, 0x44]);
+    bench.0.work_ram.bytes[..2].copy_from_slice(&[0x55, 0x66]);
+    bench.control(&[0x8100 + register_1, 0x8F01, 0x9303, 0x95FE, 0x96FF, 0x977F, 0x7FFE, 0x0083]);
+    bench
+}
+
+/// The second word is for FFFFh, so it is stored over the first with its bytes exchanged. The code
+/// takes CD5 even if no DMA begins, so only register 1 has to be put right before the data writes.
+#[test]
+fn three_words_by_a_transfer_and_by_data_writes() {
+    let mut ran = three_words(0x10);
+    assert_eq!((ran.state().kind, ran.state().source), (TRANSFER, 0xFF_FFFC));
+    assert_eq!(ran.run(3), Ok(3));
+    assert_eq!(ran.vram()[..4], [0x55, 0x66, 0, 0]);
+    assert_eq!(ran.vram()[0xFFFC..=0xFFFF], [0, 0, 0x44, 0x33]);
+    let state = ran.state();
+    assert_eq!((state.kind, state.address, state.code), (IDLE, 1, 0x21));
+    let mut wrote = three_words(0);
+    assert_eq!((wrote.state().kind, wrote.state().address), (IDLE, 0xFFFE));
+    wrote.state().registers[1] = 0x10;
+    for word in [0x1122, 0x3344, 0x5566] {
+        wrote.write(word);
+    }
+    ran.assert_same(&wrote);
+}
+
+/// A copy of five bytes from FFFEh to 0, in runs with these budgets that make these units. From
+/// unit 2 on it finds bytes that it has stored itself.
+fn copied(runs: &[(u32, u32)]) -> Bench {
+    let mut bench = Bench::new();
+    bench.vram()[0xFFFE..=0xFFFF].copy_from_slice(&[0xA1, 0xA2]);
+    bench.vram()[..6].copy_from_slice(&[0xB0, 0xB1, 0xB2, 0xB3, 0xB4, 0xB5]);
+    bench.control(&[0x8110, 0x8F01, 0x9305, 0x95FE, 0x96FF, 0x97C0, 0x0000, 0x00C0]);
+    for (budget, units) in runs {
+        assert_eq!(bench.run(*budget), Ok(*units));
+    }
+    bench
+}
+
+#[test]
+fn a_copy_of_five_bytes_in_one_run_and_in_three() {
+    let mut whole = copied(&[(9, 5)]);
+    assert_eq!(whole.vram()[..6], [0xA1, 0xA2, 0xA1, 0xA2, 0xA1, 0xB5]);
+    let state = whole.state();
+    assert_eq!((state.kind, state.remaining), (IDLE, 0));
+    assert_eq!((state.source, state.address), (0, 5));
+    whole.assert_same(&copied(&[(2, 2), (0, 0), (7, 3)]));
+}
+
+#[test]
+fn three_of_five_bytes_in_one_run_and_in_two() {
+    let mut whole = copied(&[(3, 3)]);
+    assert_eq!(whole.vram()[..6], [0xA1, 0xA2, 0xA1, 0xB3, 0xB4, 0xB5]);
+    let state = whole.state();
+    assert_eq!((state.kind, state.remaining), (COPY, 2));
+    assert_eq!((state.source, state.address), (1, 3));
+    whole.assert_same(&copied(&[(1, 1), (2, 2)]));
+    whole.assert_same(&copied(&[(2, 2), (1, 1)]));
+}
+
 #[test]
 fn a_word_past_the_cartridge_refuses_the_whole_run() {
     let mut bench = Bench::new();

@@ -10,17 +10,19 @@ use lib.ListN.{length}
 use Rattle.vdp_state.specs.declared.state.Dma.{Dma}
 use Rattle.vdp_state.specs.declared.state.State.{State}
 use Rattle.vdp_state.specs.declared.state.Step.{Step}
-use Rattle.vdp_state.specs.Answer.{first}
+use Rattle.vdp_state.specs.Answer.{first, outcomeAt}
 use Rattle.vdp_state.specs.Cell.{perform, made, steps}
 use Rattle.vdp_state.specs.Good.{good, goodSource}
 use Rattle.vdp_state.specs.State.{Chip}
 use Rattle.vdp_state.proofs.Iterate.{iterate-related}
 use Rattle.vdp_state.proofs.Bools.{by-cases, or-true, either, none, cond-zero}
 use Rattle.vdp_state.proofs.Facts.{state-dma, source-even}
-use Rattle.vdp_dma.specs.Run.{ran, unitsMade, badMemory, notLent, runTests}
+use Rattle.vdp_dma.specs.InTurn.{left}
+use Rattle.vdp_dma.specs.Run.{ran, unitsMade, badMemory, notLent, runTests, run}
 use Rattle.vdp_dma.specs.Source.{workRam, nextSource, isLent, allLent}
 use Rattle.vdp_dma.specs.Transfer.{atHand, Ready}
 use Rattle.vdp_dma.specs.Unit.{unitDma, fillStep, copyStep, unit}
+use Rattle.vdp_dma.proofs.Remaining.{dma}
 use Rattle.vdp_dma.proofs.Words.{next-plain, next-even}
 
 -- ---- all words of a run are lent where one test holds
@@ -112,6 +114,36 @@ accepted c cartridge ram budget e =
     let seven = cond-zero _ 7 0 (omega arith) (two .1) in
     record { state = not-false _ (none _ false (one .0) .0); memory = none _ false (two .0) .0; lent = none _ false (seven .0) .0 }
 
+-- the number that a run answers is that of its tests
+number-of : (n result : ℕ) (before made : Chip) → outcomeAt n result before made .answer .number ≡ n
+number-of n result before made = by-cases (eqb n 0) (λ e. simp e (sym (eqb-true n 0 e))) (λ e. simp e)
+
+module _ (c : Chip) (cartridge ram : List ℕ) (budget : ℕ) where
+  abbrev refusal : ℕ
+  refusal = first (runTests c cartridge ram budget)
+
+  abbrev n : ℕ
+  n = unitsMade (c .state) budget
+
+  pub number-is : run c cartridge ram budget .answer .number ≡ refusal
+  number-is = number-of refusal n c (ran cartridge ram n c)
+
+  -- what it leaves and reports
+  pub record Done : Type 0 where
+    pub number : refusal ≡ 0
+    pub accepted : Accepted c cartridge ram budget
+    pub chip : left (run c cartridge ram budget) ≡ ran cartridge ram n c
+    pub units : run c cartridge ram budget .answer .result ≡ n
+
+  pub done : refusal ≡ 0 → Done
+  done e =
+      record {
+        number = e;
+        accepted = accepted c cartridge ram budget e;
+        chip = ap (λ (r : ℕ). left (outcomeAt r n c (ran cartridge ram n c))) e;
+        units = ap (λ (r : ℕ). outcomeAt r n c (ran cartridge ram n c) .answer .result) e;
+      }
+
 -- the transfer of such a run has all its words at hand
 pub accepted-ready : (c : Chip) (cartridge ram : List ℕ) (budget : ℕ) → Accepted c cartridge ram budget → c .state .control .dma .kind ≡ 2 → 0 < unitsMade (c .state) budget → Ready cartridge (c .state .control .dma) (unitsMade (c .state) budget)
 accepted-ready c cartridge ram budget a k more =
@@ -123,9 +155,6 @@ accepted-ready c cartridge ram budget a k more =
     record { kind = k; enough = omega arith; even = e .0; bits = e .1; lent = either (eqb n 0) (atHand cartridge (d .source) n) test (ne-eqb n 0 (λ z. let bad : ⊥ = omega arith in bad)) }
 
 -- ---- units of one kind
-abbrev dma : Chip → Dma
-dma c = c .state .control .dma
-
 pub kind-steps : (cartridge ram : List ℕ) (kind : ℕ) (step : Chip → Step) (source : Chip → ℕ) → ((c : Chip) → dma c .kind ≡ kind → unit cartridge ram c ≡ step c) → ((c : Chip) → step c .control .dma ≡ unitDma (dma c) (source c)) → (n : ℕ) (c : Chip) → dma c .kind ≡ kind → n ≤ dma c .remaining → ran cartridge ram n c ≡ steps step n c
 unfolding perform
 kind-steps cartridge ram kind step source same shape n c k h =

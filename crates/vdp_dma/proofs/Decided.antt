@@ -1,14 +1,13 @@
 -- What a DMA unit decides on a good chip is a step in range, and so are all the units of a run.
 use Prim.Native.Nat.{ℕ, zero, suc, _+_, _-_, _*_, _%_, _<_, _≤_}
-use mathlib.Core.Path.{_≡_, refl, sym, subst}
+use mathlib.Core.Path.{_≡_, refl, sym, ap, subst}
 use mathlib.Core.Bool.{true, false}
 use mathlib.Core.List.{List, []}
 use native.Mathlib.Omega.{arith}
-use borrow.Author.Tests.{eqb-true, eqb-false, eq-eqb, ne-eqb, le-leb, lt-leb, leb-true, leb-false, lt-ltb}
+use borrow.Author.Tests.{eqb-true, eqb-false, eq-eqb, ne-eqb, le-leb, lt-leb, leb-false, lt-ltb}
 use lib.Dec.{eqb, leb, ltb, lit<, lit≤}
 use lib.ListN.{getD}
 use Rattle.vdp_state.specs.declared.state.Dma.{Dma}
-use Rattle.vdp_state.specs.declared.state.Step.{Step}
 use Rattle.vdp_state.specs.declared.state.Store.{Store}
 use Rattle.vdp_state.specs.Cell.{perform}
 use Rattle.vdp_state.specs.Good.{goodSource, mostUnits}
@@ -18,10 +17,10 @@ use Rattle.vdp_state.proofs.Bools.{by-cond, both}
 use Rattle.vdp_state.proofs.Facts.{DmaFacts, dma-facts, DmaGood, parts, control-of, source-even, transfer-source, copy-source, working}
 use Rattle.vdp_state.proofs.Laws.{StepsGood, performed-good, word-fits}
 use Rattle.vdp_ports.specs.Access.{access, evenPlace}
-use Rattle.vdp_ports.specs.Length.{register}
 use Rattle.vdp_ports.proofs.Decided.{written-good}
 use Rattle.vdp_dma.specs.Source.{workRam, wordFrom, nextSource}
 use Rattle.vdp_dma.specs.Unit.{byteStored, unitDma, unitControl, writesVram, inverted, unit}
+use Rattle.vdp_dma.proofs.Remaining.{unit-dma, next-remaining}
 use Rattle.vdp_dma.proofs.Words.{next-even}
 
 byte-good : (m : List ℕ) (place b : ℕ) → AllBytes m → place < 65536 → b < 256 → goodStore (byteStored m place b) ≡ true
@@ -63,39 +62,31 @@ module _ (cartridge ram : List ℕ) (cartridge-bytes : AllBytes cartridge) (ram-
       let p = parts k (g .control) in
       let f = dma-facts d (p .dma) in
       let high = working d f more in
-      let made : (source : ℕ) → goodSource (d .kind) source ≡ true → GoodControl (unitControl k (register (c .state) 15) source) =
-      λ source h. control-of _ (p .code) (let a : (k .port .address + register (c .state) 15) % 65536 < 65536 = omega arith in a) (unit-dma-good d source f (p .fill) high h) in
+      let made : (increment source : ℕ) → goodSource (d .kind) source ≡ true → GoodControl (unitControl k increment source) =
+      λ increment source h. control-of _ (p .code) (let a : (k .port .address + increment) % 65536 < 65536 = omega arith in a) (unit-dma-good d source f (p .fill) high h) in
       by-cond GoodStep (eqb (d .kind) 2) _ _
       (λ e.
       let two = eqb-true (d .kind) 2 e in
       record {
-        control = made (nextSource (d .source)) (subst (λ (j : ℕ). goodSource j (nextSource (d .source)) ≡ true) (sym two) (source-next (d .source) (subst (λ (j : ℕ). goodSource j (d .source) ≡ true) two (f .source))));
+        control = made _ (nextSource (d .source)) (subst (λ (j : ℕ). goodSource j (nextSource (d .source)) ≡ true) (sym two) (source-next (d .source) (subst (λ (j : ℕ). goodSource j (d .source) ≡ true) two (f .source))));
         store = written-good (access (k .port .code)) (k .port .address) (wordFrom cartridge ram (d .source)) (p .address) (word-small (d .source));
       })
       (λ e. by-cond GoodStep (eqb (d .kind) 3) _ _
       (λ t. record {
-        control = made (d .source) (f .source);
+        control = made _ (d .source) (f .source);
         store = by-cond (λ (x : Store). goodStore x ≡ true) (writesVram (access (k .port .code))) _ _
             (λ v. byte-good (c .vram) (inverted (k .port .address)) (d .fill) (g .vram) (inverted-small (k .port .address) (p .address)) (p .fill)) (λ v. refl);
       })
       (λ t.
       let four : d .kind ≡ 4 = let not2 = eqb-false (d .kind) 2 e in let not3 = eqb-false (d .kind) 3 t in omega (arith, f .kind) in
       record {
-        control = made ((d .source + 1) % 65536) (subst (λ (j : ℕ). goodSource j ((d .source + 1) % 65536) ≡ true) (sym four) (copy-source ((d .source + 1) % 65536) (omega arith)));
+        control = made _ ((d .source + 1) % 65536) (subst (λ (j : ℕ). goodSource j ((d .source + 1) % 65536) ≡ true) (sym four) (copy-source ((d .source + 1) % 65536) (omega arith)));
         store = byte-good (c .vram) (k .port .address) (getD (c .vram) (d .source) 0) (g .vram) (p .address) (g .vram (d .source));
       }))
-
-  unit-lowers : (c : Chip) → 0 < c .state .control .dma .remaining → unit cartridge ram c .control .dma .remaining ≡ c .state .control .dma .remaining - 1
-  unit-lowers c more =
-      let d = c .state .control .dma in
-      let Lower : Step → Type 0 = λ t. t .control .dma .remaining ≡ d .remaining - 1 in
-      let lowered : (source : ℕ) → unitDma d source .remaining ≡ d .remaining - 1 =
-      λ source. by-cond (λ (x : Dma). x .remaining ≡ d .remaining - 1) (leb (d .remaining) 1) _ _ (λ e. let h = leb-true (d .remaining) 1 e in omega arith) (λ e. refl) in
-      by-cond Lower (eqb (d .kind) 2) _ _ (λ e. lowered _) (λ e. by-cond Lower (eqb (d .kind) 3) _ _ (λ f. lowered _) (λ f. lowered _))
 
   pub units-good : (n : ℕ) (c : Chip) → GoodChip c → n ≤ c .state .control .dma .remaining → StepsGood (unit cartridge ram) n c
   unfolding perform
   units-good zero c g h = tt
   units-good (suc n) c g h =
       let u = unit-good c g (omega arith) in
-      (u, units-good n (perform c (unit cartridge ram c)) (performed-good c (unit cartridge ram c) g u) (omega (arith, unit-lowers c (let m : 0 < c .state .control .dma .remaining = omega arith in m))))
+      (u, units-good n (perform c (unit cartridge ram c)) (performed-good c (unit cartridge ram c) g u) (omega (arith, ap (λ (d : Dma). d .remaining) (unit-dma cartridge ram c), next-remaining (c .state .control .dma))))

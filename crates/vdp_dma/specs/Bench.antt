@@ -4,7 +4,6 @@ use mathlib.Core.Bool.{Bool, true, false, _&&_}
 use mathlib.Core.List.{List, [], _∷_, map}
 use lib.ListN.{set, take, replicate}
 use Rattle.vdp_state.specs.declared.state.State.{State}
-use Rattle.vdp_state.specs.Answer.{Outcome}
 use Rattle.vdp_state.specs.Colour.{blue, green, red}
 use Rattle.vdp_state.specs.Fresh.{fresh}
 use Rattle.vdp_state.specs.Good.{mostUnits}
@@ -15,6 +14,7 @@ use Rattle.vdp_ports.specs.Data.{dataWrite}
 use Rattle.vdp_ports.specs.Frame.{newFrame}
 use Rattle.vdp_ports.specs.Length.{register}
 use Rattle.vdp_ports.specs.Status.{statusRead}
+use Rattle.vdp_dma.specs.InTurn.{left}
 use Rattle.vdp_dma.specs.Run.{run}
 
 -- a state after control words, one after the other
@@ -29,9 +29,6 @@ abbrev pub zeros : List ℕ
 zeros = replicate 65536 0
 
 -- a chip after a data word, and after a run of all its units
-abbrev pub left : Outcome → Chip
-left o = chip (o .answer .state) (o .vram)
-
 abbrev pub written : ℕ → Chip → Chip
 written w c = left (dataWrite c w)
 

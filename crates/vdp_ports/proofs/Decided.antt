@@ -80,7 +80,7 @@ control-good c w h g =
     (λ e. by-cond GoodStep (eqb (w / 16384) 2) _ _ (λ f. register-good (c .state .control) w (g .control)) (λ f. first-good (c .state .control) w h (g .control)))
 
 -- ---- stores
-colour-kept : (w : ℕ) → isColour (colourWord w) ≡ true
+pub colour-kept : (w : ℕ) → isColour (colourWord w) ≡ true
 unfolding colourWord
 colour-kept w =
     let hb : blue w < 8 = omega arith in

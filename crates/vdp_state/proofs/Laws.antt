@@ -73,7 +73,7 @@ bytes-set (x ∷ m) zero b bytes h (suc j) = bytes (suc j)
 bytes-set (x ∷ m) (suc i) b bytes h zero = bytes zero
 bytes-set (x ∷ m) (suc i) b bytes h (suc j) = bytes-set m i b (λ k. bytes (suc k)) h j
 
-all-set : (p : ℕ → Bool) (l : List ℕ) (i v : ℕ) → all p l ≡ true → p v ≡ true → all p (set l i v) ≡ true
+pub all-set : (p : ℕ → Bool) (l : List ℕ) (i v : ℕ) → all p l ≡ true → p v ≡ true → all p (set l i v) ≡ true
 all-set p [] i v e h = refl
 all-set p (x ∷ l) zero v e h = both h (both-right (p x) (all p l) e)
 all-set p (x ∷ l) (suc i) v e h = both (both-left (p x) (all p l) e) (all-set p l i v (both-right (p x) (all p l) e) h)

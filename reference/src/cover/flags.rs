@@ -123,14 +123,11 @@ impl Flags {
 #[cfg(test)]
 mod tests {
     use super::*;
+    use crate::cover::tests::met_of;
 
     /// Which of this file's rules these commands meet: op, a, c.
     fn met(commands: &[(u8, u8, u32)]) -> Vec<String> {
-        let command = |(op, a, c): &(u8, u8, u32)| Command { op: *op, a: *a, b: 0, c: *c };
-        let mut tally = Tally::new();
-        tally.follow(&commands.iter().map(command).collect::<Vec<_>>());
-        let never = tally.never();
-        rules().into_iter().filter(|rule| !never.contains(rule)).collect()
+        met_of(rules(), commands)
     }
 
     const READ: (u8, u8, u32) = (6, 0, 0);

@@ -1,7 +1,8 @@
 //! Which answers and rules streams meet, and which they never meet.
 //! The counts come from looking at each call from outside, before and after it; for the sprite
-//! flags also from what the calls before it did.
+//! flags and for cut runs also from what the calls before it did.
 
+mod cuts;
 mod flags;
 mod lines;
 mod ports;
@@ -14,6 +15,7 @@ use crate::answer::Answer;
 use crate::check::number_in;
 use crate::replay::{Command, Machine};
 use crate::tape::{Record, RECORD_BYTES};
+use cuts::Cuts;
 use flags::Flags;
 
 /// The answers that each op may give (definition, Numbers a call may answer).
@@ -48,7 +50,8 @@ impl Tally {
         }
         let calls = (1..=9).map(recorded).collect();
         let one_call = [calls, ports::rules(), runs::rules(), lines::rules(), refused::rules()];
-        for rule in one_call.concat().into_iter().chain(flags::rules()) {
+        let more_calls = [flags::rules(), cuts::rules()];
+        for rule in one_call.concat().into_iter().chain(more_calls.concat()) {
             tally.rules.insert(rule, 0);
         }
         tally
@@ -69,23 +72,25 @@ impl Tally {
     /// Follows a stream and counts what it meets.
     pub fn follow(&mut self, commands: &[Command]) {
         let mut machine = Machine::new();
-        let mut flags = Flags::default();
+        let mut past = Past::default();
         for command in commands {
             if (1..=12).contains(&command.op) {
-                self.call(&mut machine, &mut flags, command);
+                self.call(&mut machine, &mut past, command);
             } else if command.op != 48 {
                 machine.apply(command);
-                flags.set_up(command);
+                past.flags.set_up(command);
+                past.cuts.set_up();
             }
         }
     }
 
-    fn call(&mut self, machine: &mut Machine, flags: &mut Flags, command: &Command) {
+    fn call(&mut self, machine: &mut Machine, past: &mut Past, command: &Command) {
         let before = Before { machine: machine.clone(), command: *command };
         let line = machine.apply(command).unwrap_or_default();
         let number = number_in(&line).unwrap_or(0);
         *self.answers.entry((command.op, number)).or_insert(0) += 1;
-        flags.count(self, &before, machine, number);
+        past.flags.count(self, &before, machine, number);
+        past.cuts.count(self, &before, machine, number);
         if number != 0 {
             refused::count(self, &before, number);
             return;
@@ -129,6 +134,13 @@ impl Tally {
     }
 }
 
+/// What is followed from call to call in a stream.
+#[derive(Default)]
+struct Past {
+    flags: Flags,
+    cuts: Cuts,
+}
+
 /// The machine as a call found it, and the call.
 pub struct Before {
     pub machine: Machine,
@@ -161,6 +173,15 @@ pub fn names(list: &[&str]) -> Vec<String> {
 mod tests {
     use super::*;
     use crate::streams::{stream, Kind};
+
+    /// Which of the rules these commands meet: op, a, c.
+    pub fn met_of(rules: Vec<String>, commands: &[(u8, u8, u32)]) -> Vec<String> {
+        let command = |(op, a, c): &(u8, u8, u32)| Command { op: *op, a: *a, b: 0, c: *c };
+        let mut tally = Tally::new();
+        tally.follow(&commands.iter().map(command).collect::<Vec<_>>());
+        let never = tally.never();
+        rules.into_iter().filter(|rule| !never.contains(rule)).collect()
+    }
 
     /// Every rule that is counted is also listed, so that a gap can be seen.
     #[test]

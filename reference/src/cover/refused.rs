@@ -5,7 +5,7 @@ use crate::answer::{
     BAD_BUFFER, BAD_RECORD, BAD_STATE, BUSY, NOTHING_THERE, NOT_MODELLED, NO_SUCH_PLACE,
     SOURCE_NOT_LENT, TAPE_FULL,
 };
-use crate::dma::{self, word_from, Memories};
+use crate::dma::{self, word_from};
 use crate::draw;
 use crate::replay::{Buffer, Machine};
 use crate::state::{State, COPY, FILL, TRANSFER, UNITS_MOST};
@@ -194,7 +194,7 @@ fn bad_buffer(tally: &mut Tally, before: &Before) {
     let past = op == 8 && before.command.c >= 240 || op == 11 && before.command.b > 2_047;
     tally.meet_if(past, "2 before 5");
     let units = dma::units(&machine.state, before.command.c);
-    let lent = dma::all_lent(&machine.state, units, memories(machine));
+    let lent = dma::all_lent(&machine.state, units, machine.memories());
     tally.meet_if(op == 7 && !lent, "2 before 7");
 }
 
@@ -238,14 +238,10 @@ fn no_such_place(tally: &mut Tally, before: &Before) {
     }
 }
 
-fn memories(machine: &Machine) -> Memories<'_> {
-    Memories { cartridge: machine.cartridge.lent(), work_ram: machine.work_ram.lent() }
-}
-
 fn not_lent(tally: &mut Tally, before: &Before) {
     let machine = &before.machine;
     let state = &machine.state;
-    let first = word_from(state.source, memories(machine)).is_none();
+    let first = word_from(state.source, machine.memories()).is_none();
     tally.meet_if(first, "not lent: the first word");
     tally.meet_if(!first, "not lent: a later word");
     let at_end = state.source as usize == machine.cartridge.length;

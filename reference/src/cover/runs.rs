@@ -3,13 +3,15 @@
 use super::{names, Before, Tally};
 use crate::dma::{self, Memories};
 use crate::replay::Machine;
-use crate::state::{State, Vram, COPY, FILL, FILL_WAITING, TRANSFER, UNITS_MOST};
+use crate::state::{State, Vram, FILL, FILL_WAITING, TRANSFER, UNITS_MOST};
 use crate::tape::{remaining_of, RECORD_BYTES};
 
 const RULES: &[&str] = &[
     "run of no units, idle",
     "run of no units, fill waits",
-    "run of no units, budget 0",
+    "transfer run with budget 0",
+    "fill run with budget 0",
+    "copy run with budget 0",
     "run of no units on a full tape",
     "run with a half awaited",
     "budget below the remaining",
@@ -28,10 +30,14 @@ const RULES: &[&str] = &[
     "fill ends",
     "copy ends",
     "transfer unit",
+    "transfer unit to VRAM from the cartridge",
+    "transfer unit to VRAM from work RAM",
     "transfer unit to VRAM, swapped",
-    "transfer unit to a colour",
+    "transfer unit to a colour from the cartridge",
+    "transfer unit to a colour from work RAM",
     "transfer unit to a colour past 7Fh",
-    "transfer unit to a scroll word",
+    "transfer unit to a scroll word from the cartridge",
+    "transfer unit to a scroll word from work RAM",
     "transfer unit to an absent scroll word",
     "transfer unit that stores nothing",
     "word from the cartridge",
@@ -83,7 +89,7 @@ pub fn count_run(tally: &mut Tally, before: &Before) {
     if units == 0 {
         tally.meet_if(state.kind == FILL_WAITING, "run of no units, fill waits");
         tally.meet_if(state.kind == 0, "run of no units, idle");
-        tally.meet_if(state.running(), "run of no units, budget 0");
+        tally.meet_if(state.running(), &format!("{} run with budget 0", kind_name(state.kind)));
         let full = before.machine.tape.length / RECORD_BYTES == before.machine.count as usize;
         tally.meet_if(before.taped() && full, "run of no units on a full tape");
         return;
@@ -94,11 +100,18 @@ pub fn count_run(tally: &mut Tally, before: &Before) {
     tally.meet_if(budget > state.remaining, "budget above the remaining");
     tally.meet_if(units > 1_000, "run of over 1,000 units");
     let ends = units == state.remaining;
-    tally.meet_if(ends && state.kind == TRANSFER, "transfer ends");
-    tally.meet_if(ends && state.kind == FILL, "fill ends");
-    tally.meet_if(ends && state.kind == COPY, "copy ends");
+    tally.meet_if(ends, &format!("{} ends", kind_name(state.kind)));
     count_longest(tally, before, units);
     each_unit(tally, &before.machine, units);
+}
+
+/// The name of a kind in which units remain.
+pub fn kind_name(kind: u8) -> &'static str {
+    match kind {
+        TRANSFER => "transfer",
+        FILL => "fill",
+        _ => "copy",
+    }
 }
 
 /// Runs that begin with the most units that can remain.
@@ -107,11 +120,7 @@ fn count_longest(tally: &mut Tally, before: &Before, units: u32) {
     if state.remaining != UNITS_MOST {
         return;
     }
-    let kind = match state.kind {
-        TRANSFER => "transfer",
-        FILL => "fill",
-        _ => "copy",
-    };
+    let kind = kind_name(state.kind);
     let (whole, but_one) = (units == UNITS_MOST, units == UNITS_MOST - 1);
     tally.meet_if(whole, &format!("{kind} of the most units in one run"));
     tally.meet_if(but_one, &format!("{kind} of the most units but one"));
@@ -131,8 +140,7 @@ fn each_unit(tally: &mut Tally, machine: &Machine, units: u32) {
         return;
     };
     let mut vram = Box::new(*lent);
-    let memories =
-        Memories { cartridge: machine.cartridge.lent(), work_ram: machine.work_ram.lent() };
+    let memories = machine.memories();
     let mut stored = vec![false; vram.len()];
     for _ in 0..units {
         match state.kind {
@@ -148,24 +156,24 @@ fn each_unit(tally: &mut Tally, machine: &Machine, units: u32) {
 
 fn transfer_unit(tally: &mut Tally, state: &State, memories: Memories) {
     tally.meet("transfer unit");
-    let place = state.address / 2 % 64;
-    match state.code & 15 {
-        1 => tally.meet_if(state.address % 2 == 1, "transfer unit to VRAM, swapped"),
-        3 => {
-            tally.meet("transfer unit to a colour");
+    let source = state.source;
+    let from = if source < 0xE0_0000 { "the cartridge" } else { "work RAM" };
+    tally.meet(&format!("word from {from}"));
+    match (state.code & 15, state.address / 2 % 64) {
+        (1, _) => {
+            tally.meet(&format!("transfer unit to VRAM from {from}"));
+            tally.meet_if(state.address % 2 == 1, "transfer unit to VRAM, swapped");
+        }
+        (3, _) => {
+            tally.meet(&format!("transfer unit to a colour from {from}"));
             tally.meet_if(state.address > 0x7F, "transfer unit to a colour past 7Fh");
         }
-        5 => {
-            tally.meet_if(place < 40, "transfer unit to a scroll word");
-            tally.meet_if(place >= 40, "transfer unit to an absent scroll word");
-        }
+        (5, 0..40) => tally.meet(&format!("transfer unit to a scroll word from {from}")),
+        (5, _) => tally.meet("transfer unit to an absent scroll word"),
         _ => tally.meet("transfer unit that stores nothing"),
     }
-    let source = state.source;
     let last = memories.cartridge.len() == source as usize + 2;
-    tally.meet_if(source < 0xE0_0000, "word from the cartridge");
     tally.meet_if(last, "last word of the cartridge");
-    tally.meet_if(source >= 0xE0_0000, "word from work RAM");
     tally.meet_if(source == 0xFF_FFFE, "source turns FFFFFEh to FF0000h");
     tally.meet_if(source == 0xE0_0000, "word at E00000h");
 }

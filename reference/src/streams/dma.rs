@@ -46,7 +46,7 @@ fn begin(maker: &mut Maker) {
 }
 
 /// A source near the places where something changes.
-fn some_source(maker: &mut Maker) -> u32 {
+pub fn some_source(maker: &mut Maker) -> u32 {
     let cartridge = maker.machine.cartridge.length as u32 & !1;
     let near = 2 * maker.below(4);
     let inside = maker.below(cartridge.max(2)) & !1;

@@ -1,7 +1,7 @@
 //! Seeded streams of calls: the kinds, and the maker that writes commands one by one
 //! while a machine of its own follows them, so that the next command can fit.
 
-mod dma;
+pub mod dma;
 mod drawing;
 mod mix;
 mod ports;
@@ -64,7 +64,7 @@ pub struct Maker {
 }
 
 impl Maker {
-    fn new(seed: u64, kind: Kind, count: usize) -> Maker {
+    pub fn new(seed: u64, kind: Kind, count: usize) -> Maker {
         Maker {
             random: seed.wrapping_mul(6_364_136_223_846_793_005) ^ (kind as u64 + 1),
             commands: Vec::new(),
