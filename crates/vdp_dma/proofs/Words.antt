@@ -23,6 +23,7 @@ use Rattle.vdp_dma.specs.Run.{ran}
 use Rattle.vdp_dma.specs.Source.{workRam, wordFrom, wordsNext, nextSource}
 use Rattle.vdp_dma.specs.Transfer.{moved, holding, coloursIn, scrollsIn, atHand, Ready}
 use Rattle.vdp_dma.specs.Unit.{unitDma, unitControl, transferStep, unit}
+use Rattle.vdp_dma.proofs.Remaining.{dma}
 
 -- ---- the loop over a part's words
 pub moved-turn : (l : List ℕ) (i : ℕ) (c c′ : Chip) → 2 ≤ length l - i → c′ ≡ perform c (transferStep (c .state) (getD l i 0 * 256 + getD l (i + 1) 0)) → moved (drop (i + 2) l) c′ ≡ moved (drop i l) c
@@ -118,9 +119,6 @@ module _ (cartridge ram : List ℕ) (size : length cartridge ≤ 4194304) (ramSi
       let inside : p + 2 * suc k ≤ length cartridge = h .inside in
       let plain : nextSource source ≡ source + 2 = next-plain cartridge size source (λ e. let bad : ⊥ = omega arith in bad) bits even in
       rw plain (record { side = lt-leb 0xe00000 (source + 2) (omega arith); place = omega arith; inside = omega arith })
-
-  abbrev dma : Chip → Dma
-  dma c = c .state .control .dma
 
   -- what moving k words of a part comes to, where n are to be moved: k units, and a transfer ready for the others
   record Moved (n k : ℕ) (c c′ : Chip) : Type 0 where
