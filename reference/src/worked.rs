@@ -1,6 +1,8 @@
 //! Tests: worked cases with their values (definition, Worked cases), the book beside generated
 //! streams, and that generators give the same stream each time.
 
+use std::array::from_fn;
+
 use crate::answer::{
     BAD_BUFFER, BAD_RECORD, BAD_STATE, BUSY, NOTHING_THERE, NOT_MODELLED, NO_SUCH_PLACE,
     SOURCE_NOT_LENT, TAPE_FULL,
@@ -370,23 +372,24 @@ fn copied(runs: &[(u32, u32)]) -> Bench {
     bench
 }
 
+/// The bytes at 0 to 5; the kind, the units remaining, the source and the address.
+fn copy_left(bench: &mut Bench) -> ([u8; 6], (u8, u32, u32, u16)) {
+    let bytes = from_fn(|place| bench.vram()[place]);
+    let state = bench.state();
+    (bytes, (state.kind, state.remaining, state.source, state.address))
+}
+
 #[test]
 fn a_copy_of_five_bytes_in_one_run_and_in_three() {
     let mut whole = copied(&[(9, 5)]);
-    assert_eq!(whole.vram()[..6], [0xA1, 0xA2, 0xA1, 0xA2, 0xA1, 0xB5]);
-    let state = whole.state();
-    assert_eq!((state.kind, state.remaining), (IDLE, 0));
-    assert_eq!((state.source, state.address), (0, 5));
+    assert_eq!(copy_left(&mut whole), ([0xA1, 0xA2, 0xA1, 0xA2, 0xA1, 0xB5], (IDLE, 0, 0, 5)));
     whole.assert_same(&copied(&[(2, 2), (0, 0), (7, 3)]));
 }
 
 #[test]
 fn three_of_five_bytes_in_one_run_and_in_two() {
     let mut whole = copied(&[(3, 3)]);
-    assert_eq!(whole.vram()[..6], [0xA1, 0xA2, 0xA1, 0xB3, 0xB4, 0xB5]);
-    let state = whole.state();
-    assert_eq!((state.kind, state.remaining), (COPY, 2));
-    assert_eq!((state.source, state.address), (1, 3));
+    assert_eq!(copy_left(&mut whole), ([0xA1, 0xA2, 0xA1, 0xB3, 0xB4, 0xB5], (COPY, 2, 1, 3)));
     whole.assert_same(&copied(&[(1, 1), (2, 2)]));
     whole.assert_same(&copied(&[(2, 2), (1, 1)]));
 }

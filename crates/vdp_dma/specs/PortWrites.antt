@@ -33,7 +33,7 @@ pub record WholeTransfer (c : Chip) (cartridge ram : List ℕ) (budget : ℕ) : 
   pub accepted : run c cartridge ram budget .answer .number ≡ 0
 
 -- "VRAM, colours, scroll words and address"
-pub record SameMemory (a b : Chip) : Type 0 where
+pub record SameMemoryAndAddress (a b : Chip) : Type 0 where
   pub vram : a .vram ≡ b .vram
   pub colours : a .state .cram ≡ b .state .cram
   pub scrolls : a .state .vsram ≡ b .state .vsram
@@ -45,7 +45,7 @@ abbrev pub TransferAsWrites : Type 0
 TransferAsWrites =
     (c : Chip) (cartridge ram : List ℕ) (budget : ℕ) → WholeTransfer c cartridge ram budget
     → NoneRefused dataWrite (transferWords cartridge ram c) (madeIdle c)
-    × SameMemory (left (run c cartridge ram budget)) (portWrites cartridge ram c)
+    × SameMemoryAndAddress (left (run c cartridge ram budget)) (portWrites cartridge ram c)
 
 -- a chip with pending clear
 abbrev pub notPending : Chip → Chip
