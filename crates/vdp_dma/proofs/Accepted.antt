@@ -10,7 +10,7 @@ use lib.ListN.{length}
 use Rattle.vdp_state.specs.declared.state.Dma.{Dma}
 use Rattle.vdp_state.specs.declared.state.State.{State}
 use Rattle.vdp_state.specs.declared.state.Step.{Step}
-use Rattle.vdp_state.specs.Answer.{first, outcomeAt}
+use Rattle.vdp_state.specs.Answer.{first}
 use Rattle.vdp_state.specs.Cell.{perform, made, steps}
 use Rattle.vdp_state.specs.Good.{good, goodSource}
 use Rattle.vdp_state.specs.State.{Chip}
@@ -22,6 +22,7 @@ use Rattle.vdp_dma.specs.Run.{ran, unitsMade, badMemory, notLent, runTes
 use Rattle.vdp_dma.specs.Source.{workRam, nextSource, isLent, allLent}
 use Rattle.vdp_dma.specs.Transfer.{atHand, Ready}
 use Rattle.vdp_dma.specs.Unit.{unitDma, fillStep, copyStep, unit}
+use Rattle.vdp_dma.proofs.InTurn.{number-of, done-left, done-result}
 use Rattle.vdp_dma.proofs.Remaining.{dma}
 use Rattle.vdp_dma.proofs.Words.{next-plain, next-even}
 
@@ -114,10 +115,6 @@ accepted c cartridge ram budget e =
     let seven = cond-zero _ 7 0 (omega arith) (two .1) in
     record { state = not-false _ (none _ false (one .0) .0); memory = none _ false (two .0) .0; lent = none _ false (seven .0) .0 }
 
--- the number that a run answers is that of its tests
-number-of : (n result : ℕ) (before made : Chip) → outcomeAt n result before made .answer .number ≡ n
-number-of n result before made = by-cases (eqb n 0) (λ e. simp e (sym (eqb-true n 0 e))) (λ e. simp e)
-
 module _ (c : Chip) (cartridge ram : List ℕ) (budget : ℕ) where
   abbrev refusal : ℕ
   refusal = first (runTests c cartridge ram budget)
@@ -140,8 +137,8 @@ module _ (c : Chip) (cartridge ram : List ℕ) (budget : ℕ) where
       record {
         number = e;
         accepted = accepted c cartridge ram budget e;
-        chip = ap (λ (r : ℕ). left (outcomeAt r n c (ran cartridge ram n c))) e;
-        units = ap (λ (r : ℕ). outcomeAt r n c (ran cartridge ram n c) .answer .result) e;
+        chip = done-left refusal n c (ran cartridge ram n c) e;
+        units = done-result refusal n c (ran cartridge ram n c) e;
       }
 
 -- the transfer of such a run has all its words at hand

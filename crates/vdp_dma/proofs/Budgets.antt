@@ -1,15 +1,15 @@
 -- A run may be cut into budgets, proved: a run and then one with another budget are a run with the sum of the two.
 use Prim.Native.Nat.{ℕ, _+_, _-_, _<_, _≤_, min}
-use mathlib.Core.Path.{_≡_, refl, sym, ap, ap₂, subst, _∙_}
+use mathlib.Core.Path.{_≡_, sym, ap, ap₂, subst, _∙_}
 use mathlib.Core.Bool.{Bool, true, false, not}
 use mathlib.Core.List.{List, [], _∷_}
 use native.Mathlib.Omega.{arith}
 use borrow.Author.Tests.{eqb-true, eq-eqb, le-leb, lt-leb, leb-true, leb-false, not-false}
 use lib.Dec.{eqb, leb}
-use lib.ListN.{length}
 use Rattle.vdp_state.specs.declared.state.Dma.{Dma}
 use Rattle.vdp_state.specs.Answer.{first, gives, Outcome, outcomeAt}
 use Rattle.vdp_state.specs.Cell.{iterate, made}
+use Rattle.vdp_state.specs.Good.{good}
 use Rattle.vdp_state.specs.State.{Chip}
 use Rattle.vdp_state.proofs.Bools.{by-cases}
 use Rattle.vdp_state.proofs.Facts.{state-dma, some-remaining}
@@ -21,6 +21,7 @@ use Rattle.vdp_dma.specs.Run.{run, ran, unitsMade, badMemory, notLent, r
 use Rattle.vdp_dma.specs.Source.{allLent}
 use Rattle.vdp_dma.specs.Unit.{unit}
 use Rattle.vdp_dma.proofs.Accepted.{number-is, Done, done}
+use Rattle.vdp_dma.proofs.InTurn.{nothing-made}
 use Rattle.vdp_dma.proofs.Remaining.{dma, dmaNext, ran-dma, remaining-after, kind-after, idle-exactly, lent-sum}
 
 -- ---- two runs
@@ -72,10 +73,6 @@ module _ (c : Chip) (cartridge ram : List ℕ) (a b : ℕ) (one : Done c cartrid
   pub sum-units : run c cartridge ram a .answer .result + run between cartridge ram b .answer .result ≡ run c cartridge ram (a + b) .answer .result
   sum-units = ap₂ (λ (x y : ℕ). x + y) (one .units) (two .units) ∙ sym units-sum ∙ sym (sum-done .units)
 
--- a call that makes nothing leaves what it found, refused or not
-nothing-made : (n : ℕ) (c : Chip) → (left (outcomeAt n 0 c c) ≡ c) × (outcomeAt n 0 c c .answer .result ≡ 0)
-nothing-made n c = by-cases (eqb n 0) (λ e. rw e (refl, refl)) (λ e. rw e (refl, refl))
-
 -- ---- a first run and a list of others
 module _ (c : Chip) (cartridge ram : List ℕ) where
   abbrev call : Chip → ℕ → Outcome
@@ -117,6 +114,7 @@ module _ (c : Chip) (cartridge ram : List ℕ) where
       regroup : (i j k : ℕ) → i + (j + k) ≡ i + j + k
       regroup i j k = omega arith
 
+  -- a run with the budget 0 leaves what it found, refused or not
   no-units : unitsMade (c .state) 0 ≡ 0
   no-units = omega arith
 
@@ -126,46 +124,35 @@ module _ (c : Chip) (cartridge ram : List ℕ) where
       let e : call c 0 ≡ outcomeAt n 0 c c = ap (λ (j : ℕ). outcomeAt n j c (ran cartridge ram j c)) no-units in
       (ap left e ∙ nothing-made n c .0, ap (λ (o : Outcome). o .answer .result) e ∙ nothing-made n c .1)
 
-  -- the runs together make as many units as one run with the sum
-  record Cut (budgets : List ℕ) : Type 0 where
-    pub chip : inTurn call budgets c ≡ left (call c (sum budgets))
-    pub made : inTurn call budgets c ≡ ran cartridge ram (unitsMade (c .state) (sum budgets)) c
-    pub units : resultsOf call budgets c ≡ call c (sum budgets) .answer .result
-    pub accepted : 0 < length budgets → call c (sum budgets) .answer .number ≡ 0
-
-  cut : (budgets : List ℕ) → NoneRefused call budgets c → Cut budgets
-  cut [] none =
-      record {
-        chip = sym (run-of-none .0);
-        made = ap (λ (j : ℕ). ran cartridge ram j c) (sym no-units);
-        units = sym (run-of-none .1);
-        accepted = λ some. absurd (let bad : ⊥ = omega arith in bad);
-      }
-  cut (b ∷ budgets) none =
-      let j : Joined b budgets = joined budgets b (sym (number-is c cartridge ram b) ∙ none .0) (none .1) in
-      record {
-        chip = j .chip;
-        made = j .chip ∙ done c cartridge ram (b + sum budgets) (j .number) .chip;
-        units = j .units;
-        accepted = λ some. number-is c cartridge ram (b + sum budgets) ∙ j .number;
-      }
+  -- a chip after the units of one run is idle exactly if they are all that remained
+  idle-at : (budget : ℕ) (end : Chip) → good (c .state) ≡ true → 1 < dma c .kind → end ≡ ran cartridge ram (unitsMade (c .state) budget) c → eqb (dma end .kind) 0 ≡ leb (dma c .remaining) budget
+  idle-at budget end g high e =
+      let n : ℕ = unitsMade (c .state) budget in
+      let some : 0 < dma c .remaining = some-remaining (dma c) (state-dma (c .state) g) high in
+      ap (λ (x : Chip). eqb (dma x .kind) 0) e ∙ ap (λ (d : Dma). eqb (d .kind) 0) (ran-dma cartridge ram n c)
+      ∙ idle-exactly n (dma c) high some (omega arith) ∙ all-made (dma c .remaining)
+    where
+      all-made : (remaining : ℕ) → leb remaining (min budget remaining) ≡ leb remaining budget
+      all-made remaining =
+          by-cases (leb remaining budget)
+          (λ t. let h : remaining ≤ budget = leb-true remaining budget t in le-leb remaining (min budget remaining) (omega arith) ∙ sym t)
+          (λ t. let h : budget < remaining = leb-false remaining budget t in lt-leb remaining (min budget remaining) (omega arith) ∙ sym t)
 
 pub cut-into-budgets : CutIntoBudgets
-cut-into-budgets c cartridge ram budgets p =
-    let r : Cut c cartridge ram budgets = cut c cartridge ram budgets (p .accepted) in
-    let n : ℕ = unitsMade (c .state) (sum budgets) in
-    let some : 0 < dma c .remaining = some-remaining (dma c) (state-dma (c .state) (p .state)) (p .kind) in
+cut-into-budgets c cartridge ram [] p =
+    let none = run-of-none c cartridge ram in
     record {
-      chip = r .chip;
-      units = r .units;
-      idle =
-          ap (λ (x : Chip). eqb (dma x .kind) 0) (r .made) ∙ ap (λ (d : Dma). eqb (d .kind) 0) (ran-dma cartridge ram n c)
-          ∙ idle-exactly n (dma c) (p .kind) some (omega arith) ∙ all-made (dma c .remaining) (sum budgets);
-      accepted = r .accepted;
+      chip = sym (none .0);
+      units = sym (none .1);
+      idle = idle-at c cartridge ram 0 c (p .state) (p .kind) (ap (λ (j : ℕ). ran cartridge ram j c) (sym (no-units c cartridge ram)));
+      accepted = λ some. absurd (let bad : ⊥ = omega arith in bad);
     }
-  where
-    all-made : (remaining budget : ℕ) → leb remaining (min budget remaining) ≡ leb remaining budget
-    all-made remaining budget =
-        by-cases (leb remaining budget)
-        (λ e. let h : remaining ≤ budget = leb-true remaining budget e in le-leb remaining (min budget remaining) (omega arith) ∙ sym e)
-        (λ e. let h : budget < remaining = leb-false remaining budget e in lt-leb remaining (min budget remaining) (omega arith) ∙ sym e)
+cut-into-budgets c cartridge ram (b ∷ budgets) p =
+    let total : ℕ = b + sum budgets in
+    let j : Joined c cartridge ram b budgets = joined c cartridge ram budgets b (sym (number-is c cartridge ram b) ∙ p .accepted .0) (p .accepted .1) in
+    record {
+      chip = j .chip;
+      units = j .units;
+      idle = idle-at c cartridge ram total _ (p .state) (p .kind) (j .chip ∙ done c cartridge ram total (j .number) .chip);
+      accepted = λ some. number-is c cartridge ram total ∙ j .number;
+    }

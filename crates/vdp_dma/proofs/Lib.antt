@@ -2,6 +2,7 @@ pub mod Accepted
 pub mod Bench
 pub mod Budgets
 pub mod Decided
+pub mod InTurn
 pub mod PortWrites
 pub mod Remaining
 pub mod Units

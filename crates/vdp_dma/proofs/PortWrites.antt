@@ -12,13 +12,13 @@ use Rattle.vdp_state.specs.declared.state.State.{State}
 use Rattle.vdp_state.specs.declared.state.Step.{Step}
 use Rattle.vdp_state.specs.declared.state.Store.{Store}
 use Rattle.vdp_state.specs.declared.state.Store.the-variants.{Nothing, Vram, Cram, Vsram, Register}
-use Rattle.vdp_state.specs.Answer.{outcomeAt}
+use Rattle.vdp_state.specs.Answer.{first}
 use Rattle.vdp_state.specs.Cell.{stored, storedIn, perform, made}
 use Rattle.vdp_state.specs.State.{Chip, chip, withControl, withPort, withDma}
 use Rattle.vdp_state.proofs.Facts.{state-dma, some-remaining}
 use Rattle.vdp_state.proofs.Laws.{good-colours, good-scrolls, good-control, good-of}
 use Rattle.vdp_state.proofs.Bools.{both, both-left}
-use Rattle.vdp_ports.specs.Data.{dataWriteStep, dataWrite}
+use Rattle.vdp_ports.specs.Data.{dataTests, dataWriteStep, dataWrite}
 use Rattle.vdp_ports.specs.Length.{idle}
 use Rattle.vdp_ports.proofs.Writes.{Idle, idle-accepts, idle-after-write}
 use Rattle.vdp_dma.specs.InTurn.{left, inTurn, NoneRefused}
@@ -27,6 +27,7 @@ use Rattle.vdp_dma.specs.Run.{run, ran, unitsMade}
 use Rattle.vdp_dma.specs.Source.{wordFrom, nextSource}
 use Rattle.vdp_dma.specs.Unit.{transferStep, unit}
 use Rattle.vdp_dma.proofs.Accepted.{number-is, Done, done, sizes}
+use Rattle.vdp_dma.proofs.InTurn.{number-of, done-left}
 use Rattle.vdp_dma.proofs.Remaining.{dma, unit-dma, ran-dma, next-going, idle-after}
 
 -- a chip with the DMA made idle, and pending set or clear
@@ -69,11 +70,14 @@ module _ (pending : Bool) (c : Chip) (w : ℕ) where
 
 -- an idle chip serves a data write
 module _ (c : Chip) (w : ℕ) (i : Idle c) where
-  write-number : dataWrite c w .answer .number ≡ 0
-  write-number = ap (λ (n : ℕ). outcomeAt n 0 c (perform c (dataWriteStep (c .state) w)) .answer .number) (idle-accepts c i)
+  abbrev next : Chip
+  next = perform c (dataWriteStep (c .state) w)
 
-  write-left : left (dataWrite c w) ≡ perform c (dataWriteStep (c .state) w)
-  write-left = ap (λ (n : ℕ). left (outcomeAt n 0 c (perform c (dataWriteStep (c .state) w)))) (idle-accepts c i)
+  write-number : dataWrite c w .answer .number ≡ 0
+  write-number = number-of (first (dataTests c)) 0 c next ∙ idle-accepts c i
+
+  write-left : left (dataWrite c w) ≡ next
+  write-left = done-left (first (dataTests c)) 0 c next (idle-accepts c i)
 
 -- pending after n data writes
 abbrev pendingAfter : ℕ → Bool → Bool
