@@ -12,9 +12,9 @@ enum { CAPACITY = 60, TAPE_SIZE = CAPACITY * KUTHBAREEN_RECORD_SIZE + 13 };
 
 _Static_assert(KUTHBAREEN_TAPE_CAPACITY(TAPE_SIZE) == CAPACITY, "capacity");
 
-enum op { CONTROL, CONTROL_BYTE, DATA, DATA_BYTE, READ, STATUS, FRAME, RUN, LINE, BACK, OPS };
+enum op { CONTROL, CONTROL_BYTE, DATA, DATA_BYTE, READ, STATUS, FRAME, BEGINS, RUN, LINE, ACKNOWLEDGE, BACK, OPS };
 
-/* A call: the word, byte, budget, line or steps, and the sizes that are lent. */
+/* A call: the word, byte, budget, line, level or steps, and the sizes that are lent. */
 typedef struct {
     enum op op;
     size_t value;
@@ -76,6 +76,10 @@ static kuthbareen_recorded make(call c)
         return kuthbareen_recorded_status_read(s, tape, TAPE_SIZE, count);
     case FRAME:
         return kuthbareen_recorded_new_frame(s, tape, TAPE_SIZE, count);
+    case BEGINS:
+        return kuthbareen_recorded_line_begins(s, tape, TAPE_SIZE, count);
+    case ACKNOWLEDGE:
+        return kuthbareen_recorded_acknowledge(s, tape, TAPE_SIZE, count, (uint8_t)c.value);
     case RUN:
         return kuthbareen_recorded_run(s, v, c.vram, cartridge, c.cartridge, ram, c.ram, tape, TAPE_SIZE, count,
                                        (uint32_t)c.value);
@@ -105,6 +109,10 @@ static kuthbareen_answer make_plain(call c, chip *on, uint8_t *line)
         return kuthbareen_status_read(s);
     case FRAME:
         return kuthbareen_new_frame(s);
+    case BEGINS:
+        return kuthbareen_line_begins(s);
+    case ACKNOWLEDGE:
+        return kuthbareen_acknowledge(s, (uint8_t)c.value);
     case RUN:
         return kuthbareen_run(s, on->vram, c.vram, cartridge, c.cartridge, ram, c.ram, (uint32_t)c.value);
     default:
@@ -219,11 +227,12 @@ static void random_command(void)
     record(right(CONTROL, (code >> 2) << 4 | below(4)));
 }
 
-/* Registers that let lines be drawn and DMA start: its length, source and kind. */
+/* Registers that let lines be drawn, interrupts come and DMA start: its length, source and kind. */
 static void random_register(void)
 {
-    static const uint16_t words[] = {0x8154, 0x8154, 0x8174, 0x8C81, 0x8C00, 0x8F01, 0x8F02, 0x8F80, 0x9011, 0x9303,
-                                     0x9309, 0x9320, 0x9508, 0x9601, 0x9700, 0x9770, 0x9780, 0x9780, 0x97C0};
+    static const uint16_t words[] = {0x8014, 0x8154, 0x8154, 0x8174, 0x8A00, 0x8A01, 0x8C81, 0x8C00,
+                                     0x8F01, 0x8F02, 0x8F80, 0x9011, 0x9303, 0x9309, 0x9320, 0x9508,
+                                     0x9601, 0x9700, 0x9770, 0x9780, 0x9780, 0x97C0};
     record(right(CONTROL, below(8) ? ONE_OF(words) : 0x8000 | below(0x4000)));
 }
 
@@ -241,10 +250,19 @@ static void random_access(void)
     }
 }
 
+/* A line, and often an acknowledge: of a level that is offered or not. */
+static void random_timing(void)
+{
+    static const uint8_t levels[] = {4, 4, 4, 6, 6, 0, 2};
+    record(right(BEGINS, 0));
+    if (below(2))
+        record(right(ACKNOWLEDGE, ONE_OF(levels)));
+}
+
 static void random_call(void)
 {
     uint32_t some = below((uint32_t)count + 1);
-    switch (below(12)) {
+    switch (below(14)) {
     case 0: case 1:
         random_register();
         break;
@@ -265,17 +283,24 @@ static void random_call(void)
         if (below(3))
             record(right(below(2) ? STATUS : FRAME, 0));
         break;
+    case 10: case 11:
+        random_timing();
+        break;
     default:
         step_back(below(8) ? below(6) : below(2) ? some : count + below(2));
     }
 }
 
-/* Starts anew with an empty tape and VRAM by chance; on lines 40 to 71 are two sprites that collide. */
+/* Starts anew with an empty tape and VRAM by chance; on lines 40 to 71 are two sprites that collide. Both interrupts are
+ * enabled, and the vertical one is a few lines off. */
 static void begin(bool pal)
 {
     static const uint8_t sprites[] = {0, 168, 15, 1, 0, 1, 0, 200, 0, 168, 15, 0, 0, 1, 0, 210};
     size_t i;
     present.state = kuthbareen_fresh(pal);
+    present.state.registers[0] = 0x10;
+    present.state.registers[1] = 0x20;
+    present.state.control.timing.line = 220;
     for (i = 0; i < sizeof present.vram; i++)
         present.vram[i] = (uint8_t)random_bits();
     memcpy(present.vram, sprites, sizeof sprites);
@@ -337,7 +362,7 @@ static void bad_state_and_buffers(void)
         count = SIZE_MAX;
         refused("2 for any such count", c, KUTHBAREEN_BAD_BUFFER);
         count = was;
-        if (op == CONTROL || op == CONTROL_BYTE || op == STATUS || op == FRAME)
+        if (op == CONTROL || op == CONTROL_BYTE || op == STATUS || op == FRAME || op == BEGINS || op == ACKNOWLEDGE)
             continue;
         c.vram = KUTHBAREEN_VRAM_SIZE - 1;
         refused("2 for short VRAM", c, KUTHBAREEN_BAD_BUFFER);
@@ -418,8 +443,8 @@ static void full_tape(void)
 /* 10 and 8: more steps than records, and a record that breaks the layout, at the top or below. */
 static void no_step_back(void)
 {
-    static const uint8_t bad[][2] = {{0, 2},   {1, 1},  {2, 33}, {3, 5},  {4, 1},
-                                     {10, 64}, {12, 5}, {13, 1}, {21, 1}, {31, 1}};
+    static const uint8_t bad[][2] = {{0, 1},  {0, 3},  {1, 1},  {2, 33}, {3, 5},  {4, 1},  {10, 64},
+                                     {12, 5}, {13, 1}, {21, 2}, {24, 4}, {25, 1}, {31, 1}};
     unsigned i, below_top;
     begin_ready();
     refused("10", right(BACK, count + 1), KUTHBAREEN_NOTHING_THERE);

@@ -29,12 +29,12 @@ enum {
     KUTHBAREEN_BAD_STATE = 1,       /* the state is not GOOD */
     KUTHBAREEN_BAD_BUFFER = 2,      /* a buffer has a wrong size */
     KUTHBAREEN_BUSY = 3,            /* DMA is at work */
-    KUTHBAREEN_NOT_MODELLED = 4,    /* the registers ask for what is not modelled */
+    KUTHBAREEN_NOT_MODELLED = 4,    /* the registers ask for what is not modelled, or a line begins with PAL set */
     KUTHBAREEN_NO_SUCH_PLACE = 5,   /* no such line, pattern or row */
     KUTHBAREEN_TAPE_FULL = 6,       /* fewer free records than steps to be made */
     KUTHBAREEN_SOURCE_NOT_LENT = 7, /* a word to be moved lies in no lent memory */
     KUTHBAREEN_BAD_RECORD = 8,      /* a record of the tape breaks the layout */
-    KUTHBAREEN_NOTHING_THERE = 10   /* a step back of more than the count */
+    KUTHBAREEN_NOTHING_THERE = 10   /* a step back of more than the count, or a level that is not offered */
 };
 
 /* The sizes that calls ask for, in bytes. */
@@ -49,6 +49,9 @@ enum {
 
 /* The most units of DMA that can remain: the length that registers 19 and 20 stand for while both are 0. */
 enum { KUTHBAREEN_MOST_UNITS = 65536 };
+
+/* The lines of a frame, 0 to KUTHBAREEN_LAST_LINE. */
+enum { KUTHBAREEN_LAST_LINE = 261 };
 
 /* How many steps a tape of n bytes can hold. */
 #define KUTHBAREEN_TAPE_CAPACITY(n) ((n) / KUTHBAREEN_RECORD_SIZE)
@@ -74,11 +77,20 @@ typedef struct {
     bool collision;
 } kuthbareen_flags;
 
-/* The port, DMA and the flags. */
+/* Frame timing. */
+typedef struct {
+    uint16_t line;   /* the line that the display is on; at most KUTHBAREEN_LAST_LINE */
+    uint8_t counter; /* the line counter */
+    bool vertical;   /* status bit 7: the vertical interrupt has come and was not acknowledged */
+    bool horizontal; /* a level 4 interrupt waits */
+} kuthbareen_timing;
+
+/* The port, DMA, the flags and frame timing. */
 typedef struct {
     kuthbareen_port port;
     kuthbareen_dma dma;
     kuthbareen_flags flags;
+    kuthbareen_timing timing;
 } kuthbareen_control;
 
 /* The chip's state, without VRAM. */
@@ -93,7 +105,7 @@ typedef struct {
 /* What a call on a lent state gives back. */
 typedef struct {
     uint8_t number;  /* one of the numbers above */
-    uint32_t result; /* the word read, the units made or the sprites visited, else 0 */
+    uint32_t result; /* the word or counter read, the units made, the sprites visited or the level, else 0 */
 } kuthbareen_answer;
 
 /* What a call on a tape gives back. */
@@ -103,7 +115,7 @@ typedef struct {
     size_t count;    /* the records on the tape, for the next call */
 } kuthbareen_recorded;
 
-/* A fresh state: all zero, PAL as asked. */
+/* A fresh state: all zero but for the line, which is KUTHBAREEN_LAST_LINE, and PAL, which is as asked. */
 kuthbareen_state kuthbareen_fresh(bool pal);
 
 /* Writes a word to the control port: a register, or the first or second half of a command. */
@@ -124,8 +136,22 @@ kuthbareen_answer kuthbareen_data_read(kuthbareen_state *state, const uint8_t *v
 /* Reads the status word: the result, as it was before the read. Then clears pending and the sprite flags. */
 kuthbareen_answer kuthbareen_status_read(kuthbareen_state *state);
 
-/* Begins a new frame: clears the sprite flags. */
+/* Begins a new frame: clears the sprite flags. The timing is for kuthbareen_line_begins. */
 kuthbareen_answer kuthbareen_new_frame(kuthbareen_state *state);
+
+/* The next line of the frame begins: the line counter is loaded or counts, and may make a level 4 interrupt wait; line
+ * 224 sets status bit 7. A PAL state answers KUTHBAREEN_NOT_MODELLED. */
+kuthbareen_answer kuthbareen_line_begins(kuthbareen_state *state);
+
+/* Acknowledges the interrupt level that is offered, 4 or 6: what it is for no longer waits. Another level answers
+ * KUTHBAREEN_NOTHING_THERE. */
+kuthbareen_answer kuthbareen_acknowledge(kuthbareen_state *state, uint8_t level);
+
+/* Reads the V counter: the result. The state stays as it is. */
+kuthbareen_answer kuthbareen_v_counter(kuthbareen_state *state);
+
+/* Reads the interrupt level that is offered, 0 if none is: the result. The state stays as it is. */
+kuthbareen_answer kuthbareen_level_offered(kuthbareen_state *state);
 
 /* Makes DMA units, at most as many as the budget: the result says how many. A budget of KUTHBAREEN_MOST_UNITS or above
  * makes all that remain. A transfer finds its words in the cartridge, and from E00000h up in work RAM. */
@@ -139,7 +165,8 @@ kuthbareen_answer kuthbareen_line(kuthbareen_state *state, const uint8_t *vram, 
                                   uint8_t *pixels, size_t pixels_size);
 
 /* The recorded calls do what the calls above do and put a record on the tape for each step; a run has a step for each
- * unit, so KUTHBAREEN_MOST_UNITS at most. A tape without room for all of a call's steps refuses it. */
+ * unit, so KUTHBAREEN_MOST_UNITS at most. A tape without room for all of a call's steps refuses it. The reads of the V
+ * counter and the level have no recorded form: they change nothing. */
 kuthbareen_recorded kuthbareen_recorded_control_write(kuthbareen_state *state, uint8_t *tape, size_t tape_size,
                                                       size_t count, uint16_t word);
 
@@ -160,6 +187,12 @@ kuthbareen_recorded kuthbareen_recorded_status_read(kuthbareen_state *state, uin
 
 kuthbareen_recorded kuthbareen_recorded_new_frame(kuthbareen_state *state, uint8_t *tape, size_t tape_size,
                                                   size_t count);
+
+kuthbareen_recorded kuthbareen_recorded_line_begins(kuthbareen_state *state, uint8_t *tape, size_t tape_size,
+                                                    size_t count);
+
+kuthbareen_recorded kuthbareen_recorded_acknowledge(kuthbareen_state *state, uint8_t *tape, size_t tape_size,
+                                                    size_t count, uint8_t level);
 
 kuthbareen_recorded kuthbareen_recorded_run(kuthbareen_state *state, uint8_t *vram, size_t vram_size,
                                             const uint8_t *cartridge, size_t cartridge_size, const uint8_t *ram,

@@ -27,10 +27,20 @@ pub struct Flags {
 
 #[repr(C)]
 #[derive(Clone, Debug, PartialEq)]
+pub struct Timing {
+    pub line: u16,
+    pub counter: u8,
+    pub vertical: bool,
+    pub horizontal: bool,
+}
+
+#[repr(C)]
+#[derive(Clone, Debug, PartialEq)]
 pub struct Control {
     pub port: Port,
     pub dma: Dma,
     pub flags: Flags,
+    pub timing: Timing,
 }
 
 #[repr(C)]
@@ -75,6 +85,9 @@ pub const RECORD_SIZE: usize = 32;
 
 // The most units of DMA that can remain.
 pub const MOST_UNITS: u32 = 65_536;
+
+// The last line of a frame.
+pub const LAST_LINE: u16 = 261;
 
 mod c {
     use super::{Answer, Recorded, State};

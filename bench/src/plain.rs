@@ -2,7 +2,7 @@
 // (Ports and DMA). Buffers are arrays, so that no store needs a bounds check. Calls are never inlined, as those of the
 // library are not.
 use crate::exports::{
-    Answer, Control, Dma, State, BAD_STATE, BUSY, DONE, MOST_UNITS, SOURCE_NOT_LENT,
+    Answer, Control, Dma, State, BAD_STATE, BUSY, DONE, LAST_LINE, MOST_UNITS, SOURCE_NOT_LENT,
 };
 use crate::machine::Memory;
 
@@ -15,7 +15,7 @@ pub fn good(state: &State) -> bool {
         && control_good(&state.control)
 }
 
-// What GOOD says of the port and of DMA.
+// What GOOD says of the port, of DMA and of the timing.
 pub fn control_good(control: &Control) -> bool {
     let dma = &control.dma;
     let source_good = match dma.kind {
@@ -29,6 +29,7 @@ pub fn control_good(control: &Control) -> bool {
         && (dma.remaining == 0) == (dma.kind <= 1)
         && source_good
         && (dma.fill == 0 || dma.kind == 3)
+        && control.timing.line <= LAST_LINE
 }
 
 // Stores a word where the code and the address say.

@@ -1,13 +1,15 @@
 // The tape as a plain Rust program would keep it, as docs/DEFINITION.md (The tape) has it: a record of 32 bytes before
 // each step, and a step back that puts back what the records hold. The data write and the fill are those of plain.rs.
 use crate::exports::{
-    Control, Dma, Flags, Port, Recorded, State, BAD_BUFFER, BAD_RECORD, BAD_STATE, BUSY, DONE,
-    NOTHING_THERE, RECORD_SIZE, TAPE_FULL,
+    Control, Dma, Flags, Port, Recorded, State, Timing, BAD_BUFFER, BAD_RECORD, BAD_STATE, BUSY,
+    DONE, NOTHING_THERE, RECORD_SIZE, TAPE_FULL,
 };
 use crate::machine::Memory;
 use crate::plain::{self, control_good, good};
 
 type Record = [u8; RECORD_SIZE];
+
+const VERSION: u8 = 2;
 
 // A cell with its content; places of VRAM are even.
 #[derive(Clone, Copy)]
@@ -133,7 +135,12 @@ fn word_cell(state: &State, vram: &Memory) -> Cell {
 }
 
 fn write_record(slot: &mut Record, control: &Control, cell: Cell) {
-    let Control { port, dma, flags } = control;
+    let Control {
+        port,
+        dma,
+        flags,
+        timing,
+    } = control;
     let (kind, place, old) = match cell {
         Cell::Nothing => (0, 0, 0),
         Cell::Vram(place, old) => (1, place, old),
@@ -142,7 +149,7 @@ fn write_record(slot: &mut Record, control: &Control, cell: Cell) {
         Cell::Register(place, old) => (4, place, old),
     };
     *slot = [0; RECORD_SIZE];
-    slot[..4].copy_from_slice(&[1, 0, 32, kind]);
+    slot[..4].copy_from_slice(&[VERSION, 0, 32, kind]);
     slot[4..6].copy_from_slice(&place.to_be_bytes());
     slot[6..8].copy_from_slice(&old.to_be_bytes());
     slot[8..10].copy_from_slice(&port.address.to_be_bytes());
@@ -151,6 +158,9 @@ fn write_record(slot: &mut Record, control: &Control, cell: Cell) {
     slot[16..19].copy_from_slice(&dma.source.to_be_bytes()[1..]);
     slot[19] = dma.fill;
     slot[20] = u8::from(flags.overflow) + 2 * u8::from(flags.collision);
+    slot[21..23].copy_from_slice(&timing.line.to_be_bytes());
+    slot[23] = timing.counter;
+    slot[24] = u8::from(timing.vertical) + 2 * u8::from(timing.horizontal);
 }
 
 fn word_of(record: &Record, at: usize) -> u16 {
@@ -179,6 +189,12 @@ fn control_of(record: &Record) -> Control {
             overflow: record[20] & 1 != 0,
             collision: record[20] & 2 != 0,
         },
+        timing: Timing {
+            line: word_of(record, 21),
+            counter: record[23],
+            vertical: record[24] & 1 != 0,
+            horizontal: record[24] & 2 != 0,
+        },
     }
 }
 
@@ -196,11 +212,12 @@ fn cell_of(record: &Record) -> Option<Cell> {
 }
 
 fn good_record(record: &Record) -> bool {
-    record[..3] == [1, 0, 32]
+    record[..3] == [VERSION, 0, 32]
         && cell_of(record).is_some()
         && record[11] <= 1
         && record[20] <= 3
-        && record[21..] == [0; 11]
+        && record[24] <= 3
+        && record[25..] == [0; 7]
         && control_good(&control_of(record))
 }
 

@@ -41,6 +41,33 @@ impl Bench {
         self.call(8, 0, 0, line)
     }
 
+    pub fn begins(&mut self) -> Result<u32, u8> {
+        self.call(13, 0, 0, 0)
+    }
+
+    /// Lines begin until the display is on this one, at least one and at most a frame of them.
+    pub fn begins_to(&mut self, line: u16) {
+        for _ in 0..262 {
+            assert_eq!(self.begins(), Ok(0));
+            if self.0.state.line == line {
+                return;
+            }
+        }
+        panic!("line {line} never began");
+    }
+
+    pub fn acknowledge(&mut self, level: u8) -> Result<u32, u8> {
+        self.call(14, level, 0, 0)
+    }
+
+    pub fn v_counter(&mut self) -> Result<u32, u8> {
+        self.call(15, 0, 0, 0)
+    }
+
+    pub fn level(&mut self) -> Result<u32, u8> {
+        self.call(16, 0, 0, 0)
+    }
+
     pub fn back(&mut self, steps: u32) -> Result<u32, u8> {
         self.call(10, 0, 0, steps)
     }

@@ -10,6 +10,7 @@ use crate::dma::{self, Memories};
 use crate::draw;
 use crate::ports;
 use crate::state::{State, Vram, TRANSFER};
+use crate::timing;
 
 /// A recorded call with its arguments, as the book is told of it.
 pub enum Call<'a> {
@@ -20,6 +21,8 @@ pub enum Call<'a> {
     Run { memories: Memories<'a>, budget: u32 },
     Line { pixels: usize, line: u32 },
     NewFrame,
+    LineBegins,
+    Acknowledge(u8),
     StepBack(u32),
 }
 
@@ -87,6 +90,8 @@ impl Book {
         let state = &self.present.state;
         match call {
             Call::StepBack(steps) => need(*steps as usize <= self.pages.len(), NOTHING_THERE),
+            Call::Acknowledge(level) => need(timing::offered(state, *level), NOTHING_THERE),
+            Call::LineBegins => need(!state.pal, NOT_MODELLED),
             Call::Line { line, .. } => {
                 need(*line < draw::height(state), NO_SUCH_PLACE)?;
                 need(draw::not_modelled(state).is_none(), NOT_MODELLED)
@@ -150,6 +155,8 @@ fn step(page: &mut Page, call: &Call) {
         Call::StatusRead => drop(ports::status_read(state)),
         Call::Run { memories, .. } => dma::unit(state, vram, *memories),
         Call::NewFrame => ports::new_frame(state),
+        Call::LineBegins => timing::line_begins(state),
+        Call::Acknowledge(level) => timing::acknowledge(state, *level),
         Call::Line { line, .. } => {
             let picture = draw::picture(state, vram, *line);
             state.overflow |= picture.overflow;

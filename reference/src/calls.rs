@@ -12,6 +12,7 @@ use crate::pattern;
 use crate::ports;
 use crate::state::{State, Vram, TRANSFER, VRAM_BYTES};
 use crate::tape::{good_record, undo, Tape};
+use crate::timing;
 
 pub const WORK_RAM_BYTES: usize = 65_536;
 pub const CARTRIDGE_MOST: usize = 4_194_304;
@@ -95,6 +96,42 @@ pub fn new_frame(state: &mut State, mut tape: Option<Tape>) -> Reply {
     ports::new_frame(state);
     keep(&mut tape, &before, cells::NONE);
     Ok(0)
+}
+
+/// Never busy. A PAL frame has more lines and is not modelled.
+pub fn line_begins(state: &mut State, mut tape: Option<Tape>) -> Reply {
+    need(state.good(), BAD_STATE)?;
+    count_fits(&tape)?;
+    need(!state.pal, NOT_MODELLED)?;
+    has_room(&tape, 1)?;
+    let before = state.clone();
+    timing::line_begins(state);
+    keep(&mut tape, &before, cells::NONE);
+    Ok(0)
+}
+
+/// Only the level that is offered can be acknowledged, with PAL too.
+pub fn acknowledge(state: &mut State, mut tape: Option<Tape>, level: u8) -> Reply {
+    need(state.good(), BAD_STATE)?;
+    count_fits(&tape)?;
+    need(timing::offered(state, level), NOTHING_THERE)?;
+    has_room(&tape, 1)?;
+    let before = state.clone();
+    timing::acknowledge(state, level);
+    keep(&mut tape, &before, cells::NONE);
+    Ok(0)
+}
+
+/// Changes nothing and has no recorded form.
+pub fn v_counter_read(state: &State) -> Reply {
+    need(state.good(), BAD_STATE)?;
+    Ok(u32::from(timing::v_counter(state)))
+}
+
+/// Changes nothing and has no recorded form.
+pub fn level_read(state: &State) -> Reply {
+    need(state.good(), BAD_STATE)?;
+    Ok(u32::from(timing::level(state)))
 }
 
 pub fn memories_good(memories: Memories) -> bool {

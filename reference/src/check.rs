@@ -85,7 +85,7 @@ impl Checker {
 
 /// Is this a recorded call or a step back?
 pub fn booked(command: &Command, machine: &Machine) -> bool {
-    command.op == 10 || (machine.recorded && (1..=9).contains(&command.op))
+    command.op == 10 || (machine.recorded && command.recordable())
 }
 
 /// Does a set-up command touch state, VRAM, tape or count?
@@ -109,6 +109,8 @@ fn call_of<'a>(command: &Command, machine: &'a Machine) -> Option<Call<'a>> {
         8 => Some(Call::Line { pixels: machine.pixels.length, line: command.c }),
         9 => Some(Call::NewFrame),
         10 => Some(Call::StepBack(command.c)),
+        13 => Some(Call::LineBegins),
+        14 => Some(Call::Acknowledge(command.a)),
         _ => None,
     }
 }

@@ -8,7 +8,9 @@ use crate::answer::{Reply, BAD_BUFFER, SOURCE_NOT_LENT};
 use crate::calls;
 use crate::dma::{word_from, Memories};
 use crate::replay::{CARTRIDGE, VRAM, WORK_RAM};
-use crate::state::{State, COLOUR_BITS, COPY, FILL, IDLE, SCROLL_MOST, TRANSFER, UNITS_MOST};
+use crate::state::{
+    State, COLOUR_BITS, COPY, FILL, IDLE, LAST_LINE, SCROLL_MOST, TRANSFER, UNITS_MOST,
+};
 use crate::streams::dma::{some_length, some_source};
 use crate::streams::{Kind, Maker};
 
@@ -102,6 +104,10 @@ fn under_way(maker: &mut Maker, kind: u8) -> State {
         fill: if kind == FILL { maker.byte() } else { 0 },
         overflow: maker.once_in(2),
         collision: maker.once_in(2),
+        line: maker.word() % (LAST_LINE + 1),
+        counter: maker.byte(),
+        vertical: maker.once_in(2),
+        horizontal: maker.once_in(2),
         pal: maker.once_in(2),
     };
     state.registers[15] = step;

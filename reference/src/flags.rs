@@ -7,17 +7,18 @@ use crate::state::{
     State, COLOURS, COPY, FILL, FILL_WAITING, IDLE, REGISTERS, SCROLLS, SCROLL_MOST, TRANSFER,
 };
 
-/// DMA kind, PAL, and the status words with both flags set and with both clear.
+/// DMA kind, PAL, and the status words with both flags set and with both clear. Each has 80h for
+/// vertical and 8 for line 230.
 const WORDS: [(u8, bool, u32, u32); 5] = [
-    (IDLE, false, 0x3660, 0x3600),
-    (IDLE, true, 0x3661, 0x3601),
-    (FILL_WAITING, false, 0x3660, 0x3600),
-    (FILL, false, 0x3662, 0x3602),
-    (COPY, false, 0x3662, 0x3602),
+    (IDLE, false, 0x36E8, 0x3688),
+    (IDLE, true, 0x36E9, 0x3689),
+    (FILL_WAITING, false, 0x36E8, 0x3688),
+    (FILL, false, 0x36EA, 0x368A),
+    (COPY, false, 0x36EA, 0x368A),
 ];
 
 /// A GOOD state with both flags set, pending, and something in every field that may hold it.
-fn flagged(kind: u8, pal: bool) -> State {
+pub fn flagged(kind: u8, pal: bool) -> State {
     let (remaining, source, fill) = match kind {
         TRANSFER | COPY => (7, 0x42, 0),
         FILL => (7, 0, 0x99),
@@ -36,11 +37,15 @@ fn flagged(kind: u8, pal: bool) -> State {
         fill,
         overflow: true,
         collision: true,
+        line: 230,
+        counter: 9,
+        vertical: true,
+        horizontal: true,
         pal,
     }
 }
 
-fn on_bench(state: &State) -> Bench {
+pub fn on_bench(state: &State) -> Bench {
     let mut bench = Bench::new();
     *bench.state() = state.clone();
     bench

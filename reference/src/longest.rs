@@ -185,10 +185,11 @@ fn copy_on_tape() -> Bench {
 #[test]
 fn the_first_and_the_last_of_65_536_records() {
     let tape = copy_on_tape().0.tape.bytes;
-    let first = [1, 0, 32, 1, 0, 0, 0xA0, 0xA1, 0, 0, 0x30, 0, 4, 1, 0, 0, 0, 0, 1];
-    assert_eq!(tape[..32], [first.as_slice(), &[0; 13]].concat());
-    let last = [1, 0, 32, 1, 0xFF, 0xFE, 0xAF, 0xAF, 0xFF, 0xFF, 0x30, 0, 4, 0, 0, 1];
-    assert_eq!(tape[32 * 65_535..], [last.as_slice(), &[0; 16]].concat());
+    let line_261 = [1, 5, 0, 0, 0, 0, 0, 0, 0, 0, 0];
+    let first = [2, 0, 32, 1, 0, 0, 0xA0, 0xA1, 0, 0, 0x30, 0, 4, 1, 0, 0, 0, 0, 1, 0, 0];
+    assert_eq!(tape[..32], [first.as_slice(), &line_261].concat());
+    let last = [2, 0, 32, 1, 0xFF, 0xFE, 0xAF, 0xAF, 0xFF, 0xFF, 0x30, 0, 4, 0, 0, 1];
+    assert_eq!(tape[32 * 65_535..], [last.as_slice(), &[0; 5], &line_261].concat());
 }
 
 /// Without the last three units, at FFFDh to FFFFh, these hold 0, AEh and AFh as at the start.
@@ -224,11 +225,11 @@ fn a_state_with_65_536_units_is_good_and_with_65_537_is_not() {
     for kind in [TRANSFER, FILL, COPY] {
         bench.state().kind = kind;
         bench.state().remaining = 65_536;
-        for op in [7, 9, 10] {
+        for op in [7, 9, 10, 13, 16] {
             assert_eq!(bench.call(op, 0, 0, 0), Ok(0));
         }
         bench.state().remaining = 65_537;
-        for op in 1..=10 {
+        for op in (1..=10).chain(13..=16) {
             assert_eq!(bench.call(op, 0, 0, 0), Err(BAD_STATE));
         }
     }
@@ -254,7 +255,7 @@ fn a_record_with_65_536_units_is_good_and_with_65_537_is_not() {
     ] {
         let mut bench = Bench::new();
         bench.0.count = 1;
-        bench.0.tape.bytes[..3].copy_from_slice(&[1, 0, 32]);
+        bench.0.tape.bytes[..3].copy_from_slice(&[2, 0, 32]);
         bench.0.tape.bytes[12] = kind;
         bench.0.tape.bytes[13..16].copy_from_slice(&units);
         assert_eq!(bench.back(1), reply);

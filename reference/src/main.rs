@@ -22,6 +22,8 @@ mod equals;
 #[cfg(test)]
 mod flags;
 #[cfg(test)]
+mod frames;
+#[cfg(test)]
 mod longest;
 mod pattern;
 mod planes;
@@ -31,6 +33,7 @@ mod sprites;
 mod state;
 mod streams;
 mod tape;
+mod timing;
 #[cfg(test)]
 mod worked;
 
@@ -40,7 +43,7 @@ use std::process::ExitCode;
 const USAGE: &str = "usage: reference replay [--book] < stream
        reference gen SEED KIND COUNT > stream
        reference cover STREAM ..
-kinds: ports dma refusals tape drawing mix";
+kinds: ports dma refusals tape timing drawing mix";
 
 fn main() -> ExitCode {
     let words: Vec<String> = std::env::args().skip(1).collect();

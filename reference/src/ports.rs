@@ -3,6 +3,7 @@
 
 use crate::dma;
 use crate::state::{State, Vram, COLOUR_BITS, FILL_WAITING, IDLE, REGISTERS, SCROLLS, SCROLL_MOST};
+use crate::timing;
 
 /// A byte on a port counts as a word with the byte in both halves.
 pub fn doubled(byte: u8) -> u16 {
@@ -125,6 +126,7 @@ fn vram_word(vram: &Vram, address: u16) -> u16 {
 }
 
 /// Status read: the word as it was before the read, which clears pending and both sprite flags.
+/// Vertical stays until it is acknowledged.
 pub fn status_read(state: &mut State) -> u16 {
     let word = status_word(state);
     state.pending = false;
@@ -136,13 +138,16 @@ pub fn status_read(state: &mut State) -> u16 {
 fn status_word(state: &State) -> u16 {
     let bit = |set: bool, value: u16| if set { value } else { 0 };
     0x3600
+        + bit(state.vertical, 0x80)
         + bit(state.overflow, 0x40)
         + bit(state.collision, 0x20)
+        + bit(timing::vertical_blanking(state), 8)
         + bit(dma::shows_in_status(state), 2)
         + bit(state.pal, 1)
 }
 
-/// A new frame begins with both sprite flags clear; a half that is awaited stays so.
+/// A new frame begins with both sprite flags clear; a half that is awaited stays so, and so does
+/// the line.
 pub fn new_frame(state: &mut State) {
     clear_sprite_flags(state);
 }

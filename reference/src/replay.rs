@@ -38,6 +38,16 @@ impl Command {
         let [c3, c2, c1, c0] = self.c.to_be_bytes();
         [self.op, self.a, b1, b0, c3, c2, c1, c0]
     }
+
+    /// Does it call the model?
+    pub fn calls(self) -> bool {
+        (1..=16).contains(&self.op)
+    }
+
+    /// Has its call a recorded form?
+    pub fn recordable(self) -> bool {
+        matches!(self.op, 1..=9 | 13 | 14)
+    }
 }
 
 /// The commands of a stream; a cut last one is dropped.
@@ -107,7 +117,7 @@ impl Machine {
     /// Does a command and gives the line it prints, if any.
     pub fn apply(&mut self, command: &Command) -> Option<String> {
         match command.op {
-            1..=12 => Some(self.call_line(command)),
+            _ if command.calls() => Some(self.call_line(command)),
             48 => Some(self.digest_line()),
             _ => {
                 self.set_up(command);
@@ -124,20 +134,22 @@ impl Machine {
         format!("{} {} {} {}", command.op, number, result, self.count)
     }
 
-    /// Ops 1 to 12.
+    /// Ops 1 to 16.
     pub fn call(&mut self, command: &Command) -> Reply {
         match command.op {
             1 => self.control(command.b),
             2 => self.control(doubled(command.a)),
             3 => self.data_write(command.b),
             4 => self.data_write(doubled(command.a)),
-            5..=9 => self.other_call(command),
+            5..=9 | 13 | 14 => self.other_call(command),
             10 => {
                 let (state, vram, tape) = self.with_tape();
                 calls::step_back(state, vram, tape, command.c)
             }
             11 => calls::pattern_row(self.vram.lent(), self.row.lent_mut(), command.b, command.c),
-            _ => calls::colour_parts(command.b, command.a),
+            12 => calls::colour_parts(command.b, command.a),
+            15 => calls::v_counter_read(&self.state),
+            _ => calls::level_read(&self.state),
         }
     }
 
@@ -158,7 +170,7 @@ impl Machine {
         calls::data_write(state, vram, recorded.then_some(tape), word)
     }
 
-    /// Ops 5 to 9, plain or recorded.
+    /// Ops 5 to 9, 13 and 14, plain or recorded.
     fn other_call(&mut self, command: &Command) -> Reply {
         let memories =
             Memories { cartridge: self.cartridge.lent(), work_ram: self.work_ram.lent() };
@@ -170,7 +182,9 @@ impl Machine {
             6 => calls::status_read(state, tape),
             7 => calls::run(state, vram, memories, tape, command.c),
             8 => calls::draw_line(state, vram, self.pixels.lent_mut(), tape, command.c),
-            _ => calls::new_frame(state, tape),
+            9 => calls::new_frame(state, tape),
+            13 => calls::line_begins(state, tape),
+            _ => calls::acknowledge(state, tape, command.a),
         }
     }
 
@@ -248,6 +262,10 @@ fn set_field(state: &mut State, command: &Command) {
         10 => state.overflow = c % 2 == 1,
         11 => state.collision = c % 2 == 1,
         12 => state.pal = c % 2 == 1,
+        13 => state.line = word,
+        14 => state.counter = byte,
+        15 => state.vertical = c % 2 == 1,
+        16 => state.horizontal = c % 2 == 1,
         _ => (),
     }
 }
@@ -266,7 +284,7 @@ fn digest(bytes: &[u8]) -> u32 {
 }
 
 /// The state as bytes, in the stream's order.
-fn state_bytes(state: &State) -> Vec<u8> {
+pub fn state_bytes(state: &State) -> Vec<u8> {
     let mut bytes = state.registers.to_vec();
     for word in state.colours.iter().chain(&state.scrolls) {
         bytes.extend(word.to_be_bytes());
@@ -277,5 +295,8 @@ fn state_bytes(state: &State) -> Vec<u8> {
     bytes.extend(state.source.to_be_bytes());
     bytes.push(state.fill);
     bytes.extend([state.overflow, state.collision, state.pal].map(u8::from));
+    bytes.extend(state.line.to_be_bytes());
+    bytes.push(state.counter);
+    bytes.extend([state.vertical, state.horizontal].map(u8::from));
     bytes
 }

@@ -11,6 +11,8 @@ pub const COLOUR_BITS: u16 = 0x0EEE;
 pub const SCROLL_MOST: u16 = 0x3FF;
 /// The most units that can remain; a length of zero stands for as many (definition, DMA).
 pub const UNITS_MOST: u32 = 65_536;
+/// A frame has 262 lines, the first of them line 0 (definition, Frame timing).
+pub const LAST_LINE: u16 = 261;
 
 pub type Vram = [u8; VRAM_BYTES];
 
@@ -35,11 +37,15 @@ pub struct State {
     pub fill: u8,
     pub overflow: bool,
     pub collision: bool,
+    pub line: u16,
+    pub counter: u8,
+    pub vertical: bool,
+    pub horizontal: bool,
     pub pal: bool,
 }
 
 impl State {
-    /// The state after power on.
+    /// The state after power on; the first line to begin is line 0.
     pub fn fresh(pal: bool) -> State {
         State {
             registers: [0; REGISTERS],
@@ -54,6 +60,10 @@ impl State {
             fill: 0,
             overflow: false,
             collision: false,
+            line: LAST_LINE,
+            counter: 0,
+            vertical: false,
+            horizontal: false,
             pal,
         }
     }
@@ -66,6 +76,7 @@ impl State {
             && self.remaining_good()
             && self.source_good()
             && (self.fill == 0 || self.kind == FILL)
+            && self.line <= LAST_LINE
     }
 
     /// Units remain exactly while a transfer, fill or copy is under way.

@@ -5,7 +5,8 @@ use crate::cells::{Cell, CELL_COLOUR, CELL_NONE, CELL_REGISTER, CELL_SCROLL, CEL
 use crate::state::{State, Vram, COLOURS, COLOUR_BITS, REGISTERS, SCROLLS, SCROLL_MOST};
 
 pub const RECORD_BYTES: usize = 32;
-const VERSION: u8 = 1;
+/// Version 1 had no timing.
+pub const VERSION: u8 = 2;
 
 pub type Record = [u8; RECORD_BYTES];
 
@@ -64,6 +65,9 @@ pub fn record(before: &State, cell: Cell) -> Record {
     bytes[16..19].copy_from_slice(&before.source.to_be_bytes()[1..]);
     bytes[19] = before.fill;
     bytes[20] = u8::from(before.overflow) + 2 * u8::from(before.collision);
+    bytes[21..23].copy_from_slice(&before.line.to_be_bytes());
+    bytes[23] = before.counter;
+    bytes[24] = u8::from(before.vertical) + 2 * u8::from(before.horizontal);
     bytes
 }
 
@@ -80,6 +84,11 @@ pub fn remaining_of(record: &Record) -> u32 {
     u32::from_be_bytes([0, record[13], record[14], record[15]])
 }
 
+/// The line that a record holds.
+pub fn line_of(record: &Record) -> u16 {
+    u16::from_be_bytes([record[21], record[22]])
+}
+
 /// Puts the record's part of the state into a state; the other fields stay.
 fn restore_state(state: &mut State, record: &Record) {
     state.address = u16::from_be_bytes([record[8], record[9]]);
@@ -91,6 +100,10 @@ fn restore_state(state: &mut State, record: &Record) {
     state.fill = record[19];
     state.overflow = record[20] & 1 != 0;
     state.collision = record[20] & 2 != 0;
+    state.line = line_of(record);
+    state.counter = record[23];
+    state.vertical = record[24] & 1 != 0;
+    state.horizontal = record[24] & 2 != 0;
 }
 
 /// Does the record keep the layout and all ranges?
@@ -102,7 +115,8 @@ pub fn good_record(record: &Record) -> bool {
         && good_cell(cell_of(record))
         && record[11] <= 1
         && record[20] <= 3
-        && record[21..].iter().all(|byte| *byte == 0)
+        && record[24] <= 3
+        && record[25..].iter().all(|byte| *byte == 0)
         && before.good()
 }
 

@@ -440,7 +440,7 @@ fn step_back_inside_a_recorded_copy() {
     assert_eq!(bench.run(3), Ok(3));
     assert_eq!(bench.run(3), Ok(0));
     assert_eq!(bench.frame(), Err(TAPE_FULL));
-    assert_eq!(bench.0.tape.bytes[..16], [1, 0, 32, 1, 0, 0, 0xAA, 0, 0, 1, 0x30, 0, 4, 0, 0, 3]);
+    assert_eq!(bench.0.tape.bytes[..16], [2, 0, 32, 1, 0, 0, 0xAA, 0, 0, 1, 0x30, 0, 4, 0, 0, 3]);
     assert_eq!(bench.back(2), Ok(0));
     assert_eq!((bench.0.count, bench.state().remaining), (1, 2));
     assert_eq!(bench.vram()[..4], [0xAA, 0xAA, 0, 0]);
@@ -464,12 +464,15 @@ fn steps_that_store_nothing_have_no_cell() {
     assert_eq!(bench.call(5, 0, 0, 0), Ok(0));
     assert_eq!(bench.status(), Ok(0x3600));
     assert_eq!(bench.frame(), Ok(0));
-    assert_eq!(bench.0.count, 7);
-    for record in bench.0.tape.bytes.chunks(32).take(7) {
-        assert_eq!(record[..8], [1, 0, 32, 0, 0, 0, 0, 0]);
+    assert_eq!(bench.begins(), Ok(0));
+    bench.state().horizontal = true;
+    assert_eq!(bench.acknowledge(4), Ok(0));
+    assert_eq!(bench.0.count, 9);
+    for record in bench.0.tape.bytes.chunks(32).take(9) {
+        assert_eq!(record[..8], [2, 0, 32, 0, 0, 0, 0, 0]);
     }
     bench.control(&[0x8F02]);
-    assert_eq!(bench.0.tape.bytes[7 * 32 + 3..7 * 32 + 8], [4, 0, 15, 0, 0]);
+    assert_eq!(bench.0.tape.bytes[9 * 32 + 3..9 * 32 + 8], [4, 0, 15, 0, 0]);
 }
 
 #[test]
@@ -492,10 +495,10 @@ fn refusals_come_in_their_order() {
     assert_eq!(bench.line(0), Err(TAPE_FULL));
 }
 
-/// Tape and mixed streams agree with full copies of every moment.
+/// Streams with recorded calls agree with full copies of every moment.
 #[test]
 fn book_agrees_with_the_tape() {
-    for (kind, least) in [(Kind::Tape, 1_000), (Kind::Mix, 200)] {
+    for (kind, least) in [(Kind::Tape, 1_000), (Kind::Timing, 1_000), (Kind::Mix, 200)] {
         let mut checked = 0;
         for seed in 100..112 {
             let mut checker = Checker::new();
@@ -529,11 +532,12 @@ fn kinds_keep_to_their_ops() {
     for (kind, _) in Kind::ALL {
         for seed in 0..20 {
             for command in stream(seed, kind, 400) {
-                let plain = matches!(command.op, 1..=7 | 9 | 12 | 32..=36 | 39 | 48);
+                let plain = matches!(command.op, 1..=7 | 9 | 12..=16 | 32..=36 | 39 | 48);
                 let fits = match kind {
                     Kind::Ports | Kind::Dma | Kind::Refusals => plain,
                     Kind::Drawing => plain || matches!(command.op, 8 | 11),
                     Kind::Tape => command.op != 8 && command.op != 11,
+                    Kind::Timing => command.op != 11,
                     Kind::Mix => true,
                 };
                 assert!(fits, "{kind:?} {seed}: {command:?}");

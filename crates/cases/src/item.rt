@@ -40,13 +40,13 @@ fn show(c: Case, text: &[u8], vram: &[u8]) -> Case {
     moved(c, end)
 }
 
-// The op of a letter: 1 to 12, and 32 to 39.
+// The op of a letter: 1 to 16, and 32 to 39.
 fn op_of(letter: u8) -> u8 {
-    let i = place_of(b"cCdDrsulfkpx!zbgnmth", letter);
-    if i < 12 {
+    let i = place_of(b"cCdDrsulfkpxiavo!zbgnmth", letter);
+    if i < 16 {
         (i as u8) + 1
     } else {
-        ((i % 32) as u8) + 20
+        ((i % 32) as u8) + 16
     }
 }
 

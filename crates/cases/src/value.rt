@@ -8,6 +8,7 @@ use vdp_state::cell::word_at;
 use vdp_state::good::good;
 use vdp_state::state::Control;
 use vdp_state::state::State;
+use vdp_state::state::Timing;
 
 fn truth(t: bool) -> u32 {
     if t { 1 } else { 0 }
@@ -46,6 +47,16 @@ fn state_field(s: State, field: u32, i: usize) -> u32 {
     }
 }
 
+// The line, the line counter, vertical and horizontal.
+fn timing_value(t: Timing, which: u32) -> u32 {
+    match which {
+        21 => t.line as u32,
+        22 => t.counter as u32,
+        23 => truth(t.vertical),
+        _ => truth(t.horizontal),
+    }
+}
+
 // What stands in VRAM or on the screen, and whether VRAM is as it was marked.
 fn memory_value(c: Case, vram: &[u8], which: u32, i: u32) -> u32 {
     match which {
@@ -70,6 +81,7 @@ pub(crate) fn value(c: Case, vram: &[u8], which: u32, i: u32) -> u32 {
     match which {
         0..=12 => state_field(c.machine.state, which, i as usize),
         16 | 17 | 20 => memory_value(c, vram, which, i),
+        21..=24 => timing_value(c.machine.state.control.timing, which),
         _ => answer_value(c, which),
     }
 }

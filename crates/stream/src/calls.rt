@@ -1,4 +1,5 @@
-// Ops 1 to 7 and 9: the port accesses, new frames and runs, plain and recorded. The buffers are lent here as they stand.
+// Ops 1 to 7, 9, 13 and 14: the port accesses, new frames, runs and calls of frame timing, plain and recorded. The
+// buffers are lent here as they stand. Ops 15 and 16, the reads of the timing, are plain always.
 use crate::command::Command;
 use crate::machine::Machine;
 use vdp_dma::run::run;
@@ -13,6 +14,11 @@ use vdp_state::answer::Answer;
 use vdp_state::state::State;
 use vdp_tape::calls as recorded;
 use vdp_tape::recorder::TapeAnswer;
+use vdp_tape::timing as recorded_timing;
+use vdp_timing::interrupt::acknowledge;
+use vdp_timing::interrupt::level_offered;
+use vdp_timing::line_begins::line_begins;
+use vdp_timing::v_counter::v_counter;
 
 fn plain_call<'a>(
     s: State,
@@ -30,17 +36,21 @@ fn plain_call<'a>(
         5 => data_read(s, vram),
         6 => status_read(s),
         7 => run(s, vram, cartridge, ram, k.c),
+        13 => line_begins(s),
+        14 => acknowledge(s, k.a),
         _ => new_frame(s),
     }
 }
 
-// Ops 1, 2, 6 and 9, recorded: the calls without VRAM.
+// Ops 1, 2, 6, 9, 13 and 14, recorded: the calls without VRAM.
 fn recorded_without_vram(s: State, k: Command, tape: &mut [u8], count: usize) -> TapeAnswer {
     let op = k.op;
     match op {
         1 => recorded::control_write(s, tape, count, k.b),
         2 => recorded::control_write_byte(s, tape, count, k.a),
         6 => recorded::status_read(s, tape, count),
+        13 => recorded_timing::line_begins(s, tape, count),
+        14 => recorded_timing::acknowledge(s, tape, count, k.a),
         _ => recorded::new_frame(s, tape, count),
     }
 }
@@ -87,6 +97,16 @@ pub(crate) fn counted(answer: Answer, count: usize) -> TapeAnswer {
         count,
         state,
     }
+}
+
+// Ops 15 and 16.
+pub(crate) fn timing_read(m: Machine, op: u8) -> TapeAnswer {
+    let answer = if op == 15 {
+        v_counter(m.state)
+    } else {
+        level_offered(m.state)
+    };
+    counted(answer, m.count as usize)
 }
 
 pub(crate) fn chip_call<'a>(

@@ -8,6 +8,7 @@ use vdp_state::state::Dma;
 use vdp_state::state::Flags;
 use vdp_state::state::Port;
 use vdp_state::state::State;
+use vdp_state::state::Timing;
 
 fn byte(h: u32, b: u8) -> u32
     ensures { λ r. ⌜ r ≡ step h b ⌝ }
@@ -68,12 +69,21 @@ fn control(h: u32, c: Control) -> u32 {
     flags(dma(port(h, c.port), c.dma), c.flags)
 }
 
-// The state's bytes: the registers, the colour words, the scroll words, the control part and PAL.
+fn timing(h: u32, t: Timing) -> u32 {
+    truth(
+        truth(byte(word(h, t.line), t.counter), t.vertical),
+        t.horizontal,
+    )
+}
+
+// The state's bytes: the registers, the colour words, the scroll words, the control part but for the timing, PAL, and
+// the timing.
 pub fn state(s: State) -> u32 {
     let registers = bytes(0, &s.registers);
     let colours = words(registers, &s.cram);
     let scrolls = words(colours, &s.vsram);
-    truth(control(scrolls, s.control), s.pal)
+    let pal = truth(control(scrolls, s.control), s.pal);
+    timing(pal, s.control.timing)
 }
 
 // The line of command 48: the digests of the state and of four buffers, and the count.

@@ -8,6 +8,7 @@ use vdp_state::state::Port;
 use vdp_state::state::State;
 use vdp_state::state::Step;
 use vdp_state::state::Store;
+use vdp_state::state::Timing;
 
 fn to_truth(c: u32) -> bool {
     c % 2 == 1
@@ -49,12 +50,26 @@ fn flags_with(f: Flags, a: u8, c: u32) -> Flags {
     next
 }
 
-// The control part, with one of fields 3 to 11 set.
+// Fields 13 to 16.
+fn timing_with(t: Timing, a: u8, c: u32) -> Timing {
+    let mut next = t;
+    match a {
+        13 => next.line = (c % 65536) as u16,
+        14 => next.counter = (c % 256) as u8,
+        15 => next.vertical = to_truth(c),
+        16 => next.horizontal = to_truth(c),
+        _ => {}
+    }
+    next
+}
+
+// The control part, with one of fields 3 to 11 or 13 to 16 set.
 fn control_with(k: Control, a: u8, c: u32) -> Control {
     Control {
         port: port_with(k.port, a, c),
         dma: dma_with(k.dma, a, c),
         flags: flags_with(k.flags, a, c),
+        timing: timing_with(k.timing, a, c),
     }
 }
 

@@ -1,5 +1,6 @@
 // What each command of the stream does, by its op.
 use crate::calls::chip_call;
+use crate::calls::timing_read;
 use crate::command::Command;
 use crate::digest::digest_line;
 use crate::machine::CARTRIDGE;
@@ -24,7 +25,7 @@ fn back_turn(m: Machine, k: Command, vram: &mut [u8], tape: &[u8]) -> Turn {
     answered(m, k.op, r)
 }
 
-// Ops 1 to 12 on what is lent of the buffers.
+// Ops 1 to 16 on what is lent of the buffers.
 fn call<'a>(
     m: Machine,
     k: Command,
@@ -39,11 +40,12 @@ fn call<'a>(
         10 => back_turn(m, k, vram, tape),
         11 => row_turn(m, k, vram),
         12 => parts_turn(m, k),
+        15..=16 => answered(m, op, timing_read(m, op)),
         _ => answered(m, op, chip_call(m, k, vram, cartridge, ram, tape)),
     }
 }
 
-// Ops 1 to 12: each buffer is lent at its length.
+// Ops 1 to 16: each buffer is lent at its length.
 fn lent_call<'a>(
     m: Machine,
     k: Command,
@@ -100,7 +102,7 @@ pub fn turn(
 ) -> Turn {
     let op = k.op;
     match op {
-        1..=12 => lent_call(m, k, vram, ram, cartridge, tape),
+        1..=16 => lent_call(m, k, vram, ram, cartridge, tape),
         _ => set_up(m, k, vram, ram, cartridge, tape),
     }
 }

@@ -60,10 +60,10 @@ module _ (cartridge ram : List ℕ) (cartridge-bytes : AllBytes cartridge) (ram-
       let k = c .state .control in
       let d = k .dma in
       let p = parts k (g .control) in
-      let f = dma-facts d (p .dma) in
+      let f = dma-facts d (p .dma .0) in
       let high = working d f more in
       let made : (increment source : ℕ) → goodSource (d .kind) source ≡ true → GoodControl (unitControl k increment source) =
-      λ increment source h. control-of _ (p .code) (let a : (k .port .address + increment) % 65536 < 65536 = omega arith in a) (unit-dma-good d source f (p .fill) high h) in
+      λ increment source h. control-of _ (p .code) (let a : (k .port .address + increment) % 65536 < 65536 = omega arith in a) (unit-dma-good d source f (p .dma .1) high h) (p .timing) in
       by-cond GoodStep (eqb (d .kind) 2) _ _
       (λ e.
       let two = eqb-true (d .kind) 2 e in
@@ -75,7 +75,7 @@ module _ (cartridge ram : List ℕ) (cartridge-bytes : AllBytes cartridge) (ram-
       (λ t. record {
         control = made _ (d .source) (f .source);
         store = by-cond (λ (x : Store). goodStore x ≡ true) (writesVram (access (k .port .code))) _ _
-            (λ v. byte-good (c .vram) (inverted (k .port .address)) (d .fill) (g .vram) (inverted-small (k .port .address) (p .address)) (p .fill)) (λ v. refl);
+            (λ v. byte-good (c .vram) (inverted (k .port .address)) (d .fill) (g .vram) (inverted-small (k .port .address) (p .address)) (p .dma .1)) (λ v. refl);
       })
       (λ t.
       let four : d .kind ≡ 4 = let not2 = eqb-false (d .kind) 2 e in let not3 = eqb-false (d .kind) 3 t in omega (arith, f .kind) in

@@ -4,8 +4,7 @@ use mathlib.Core.Path.{_≡_, refl, sym, ap, ap₂, subst, _∙_}
 use mathlib.Core.Bool.{Bool, false}
 use mathlib.Core.List.{List}
 use native.Mathlib.Omega.{arith}
-use borrow.Author.Tests.{eq-eqb}
-use lib.Dec.{leb}
+use borrow.Author.Tests.{eq-eqb, le-leb}
 use Rattle.vdp_state.specs.declared.state.Control.{Control}
 use Rattle.vdp_state.specs.declared.state.Dma.{Dma}
 use Rattle.vdp_state.specs.declared.state.State.{State}
@@ -15,9 +14,9 @@ use Rattle.vdp_state.specs.declared.state.Store.the-variants.{Nothing, Vram, Cr
 use Rattle.vdp_state.specs.Answer.{first}
 use Rattle.vdp_state.specs.Cell.{stored, storedIn, perform, made}
 use Rattle.vdp_state.specs.State.{Chip, chip, withControl, withPort, withDma}
-use Rattle.vdp_state.proofs.Facts.{state-dma, some-remaining}
+use Rattle.vdp_state.proofs.Facts.{tested, state-dma, some-remaining}
 use Rattle.vdp_state.proofs.Laws.{good-colours, good-scrolls, good-control, good-of}
-use Rattle.vdp_state.proofs.Bools.{both, both-left}
+use Rattle.vdp_state.proofs.Bools.{both}
 use Rattle.vdp_ports.specs.Data.{dataTests, dataWriteStep, dataWrite}
 use Rattle.vdp_ports.specs.Length.{idle}
 use Rattle.vdp_ports.proofs.Writes.{Idle, idle-accepts, idle-after-write}
@@ -150,8 +149,9 @@ module _ (c : Chip) (cartridge ram : List ℕ) (budget : ℕ) (t : WholeTransfer
   idle-start =
       let s = c .state in
       let g = ran-whole .accepted .state in
+      let k = tested (s .control) (good-control s g) in
       record {
-        good = good-of _ (good-colours s g) (good-scrolls s g) (both (both-left (leb (s .control .port .code) 63) _ (good-control s g)) refl);
+        good = good-of _ (good-colours s g) (good-scrolls s g) (both (both (le-leb _ _ (k .code)) refl) (k .timing));
         size = sizes (c .vram) cartridge ram (ran-whole .accepted .memory) .vramSize;
         kind = refl;
       }

@@ -1,14 +1,14 @@
 -- The cases of definition, Worked cases, that are proved, as one table: what is given, and what should be.
 use Prim.Native.Nat.{ℕ}
-use mathlib.Core.Bool.{Bool, true, false, _&&_}
+use mathlib.Core.Bool.{true, false}
 use mathlib.Core.List.{List, [], _∷_, map}
 use lib.ListN.{set, take, replicate}
 use Rattle.vdp_state.specs.declared.state.State.{State}
 use Rattle.vdp_state.specs.Colour.{blue, green, red}
 use Rattle.vdp_state.specs.Fresh.{fresh}
 use Rattle.vdp_state.specs.Good.{mostUnits}
-use Rattle.vdp_state.specs.Same.{same}
 use Rattle.vdp_state.specs.State.{Chip, chip, withControl, withFlags}
+use Rattle.vdp_state.specs.Worked.{Case, gives}
 use Rattle.vdp_ports.specs.Control.{controlWrite}
 use Rattle.vdp_ports.specs.Data.{dataWrite}
 use Rattle.vdp_ports.specs.Frame.{newFrame}
@@ -70,13 +70,6 @@ longest =
     ∷ written 0x1234 (chip (zeroLength 0x9780 0x4000 0x0080) zeros) .state
     ∷ []
 
-pub record Case : Type 0 where
-  pub given : List ℕ
-  pub should : List ℕ
-
-abbrev pub gives : List ℕ → List ℕ → Case
-gives g s = record { given = g; should = s }
-
 -- what is looked at of a state and of a chip
 abbrev pub codeAndAddress : State → List ℕ
 codeAndAddress s = s .control .port .code ∷ s .control .port .address ∷ []
@@ -123,8 +116,3 @@ table =
     ∷ gives (map remaining longest) (65536 ∷ 65536 ∷ 65536 ∷ [])
     ∷ gives (map (unitsRun 65537) longest) (65536 ∷ 65536 ∷ 65536 ∷ [])
     ∷ []
-
--- every case gives what it should
-abbrev pub allGiven : List Case → Bool
-allGiven [] = true
-allGiven (c ∷ cs) = same (c .given) (c .should) && allGiven cs

@@ -7,3 +7,4 @@ pub mod line;
 pub mod ports;
 pub mod run;
 pub mod tape;
+pub mod timing;

@@ -4,7 +4,7 @@ ghost use mathlib.Core.List.{List};
 ghost use Prim.Native.Nat.{ℕ};
 ghost use Rattle.vdp_ports.specs.Control.{byteWord};
 ghost use Rattle.vdp_tape.specs.Line.{lineTapeOutcome, recordedLine};
-ghost use Rattle.vdp_tape.specs.Recorded.{ControlWrite, DataWrite, DataRead, StatusRead, NewFrame, Run, recorded};
+ghost use Rattle.vdp_tape.specs.Recorded.{ControlWrite, DataWrite, DataRead, StatusRead, NewFrame, LineBegins, Acknowledge, Run, recorded};
 ghost use Rattle.vdp_tape.specs.Recorder.{recorder, tapeOutcome};
 ghost use Rattle.vdp_tape.specs.StepBack.{stepBack};
 ghost use Rattle.vdp_lent.specs.Answer.{withTapeState};
@@ -20,6 +20,8 @@ use vdp_tape::calls::run;
 use vdp_tape::calls::status_read;
 use vdp_tape::line::line as draw;
 use vdp_tape::step_back::step_back;
+use vdp_tape::timing::acknowledge;
+use vdp_tape::timing::line_begins;
 
 // Writes a word to the control port.
 #[no_mangle]
@@ -153,6 +155,45 @@ pub extern "C" fn kuthbareen_recorded_new_frame(
         ≡ recorded NewFrame (recorder (now (s .entry)) m (now (tape .entry)) count)) ⌝ }
 {
     let answer = new_frame(*s, tape, count);
+    *s = answer.state;
+    LentTapeAnswer {
+        number: answer.number,
+        result: answer.result,
+        count: answer.count,
+    }
+}
+
+// The next line begins.
+#[no_mangle]
+pub extern "C" fn kuthbareen_recorded_line_begins(
+    s: &mut State,
+    tape: &mut [u8],
+    count: usize,
+) -> LentTapeAnswer
+    ensures { λ r. ⌜ ((m : List ℕ) → tapeOutcome (withTapeState r (now (s .exit))) m (now (tape .exit))
+        ≡ recorded LineBegins (recorder (now (s .entry)) m (now (tape .entry)) count)) ⌝ }
+{
+    let answer = line_begins(*s, tape, count);
+    *s = answer.state;
+    LentTapeAnswer {
+        number: answer.number,
+        result: answer.result,
+        count: answer.count,
+    }
+}
+
+// Acknowledges the level that is offered.
+#[no_mangle]
+pub extern "C" fn kuthbareen_recorded_acknowledge(
+    s: &mut State,
+    tape: &mut [u8],
+    count: usize,
+    level: u8,
+) -> LentTapeAnswer
+    ensures { λ r. ⌜ ((m : List ℕ) → tapeOutcome (withTapeState r (now (s .exit))) m (now (tape .exit))
+        ≡ recorded (Acknowledge level) (recorder (now (s .entry)) m (now (tape .entry)) count)) ⌝ }
+{
+    let answer = acknowledge(*s, tape, count, level);
     *s = answer.state;
     LentTapeAnswer {
         number: answer.number,

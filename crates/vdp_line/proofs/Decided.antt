@@ -1,7 +1,6 @@
 -- What a line decides on a good chip is a step in range.
 use Prim.Native.Nat.{ℕ}
-use mathlib.Core.Path.{_≡_, refl}
-use Rattle.vdp_state.specs.declared.state.Control.{Control}
+use mathlib.Core.Path.{refl}
 use Rattle.vdp_state.specs.Range.{GoodControl, GoodChip, GoodStep}
 use Rattle.vdp_state.specs.State.{Chip}
 use Rattle.vdp_state.proofs.Bools.{by-cond}
@@ -13,6 +12,6 @@ pub line-good : (c : Chip) → GoodChip c → (n : ℕ) → GoodStep (lineStep c
 line-good c g n =
     let p = parts (c .state .control) (g .control) in
     record {
-      control = by-cond GoodControl (displayed (c .state)) _ _ (λ e. control-of _ (p .code) (p .address) (p .dma, p .fill)) (λ e. g .control);
+      control = by-cond GoodControl (displayed (c .state)) _ _ (λ e. control-of _ (p .code) (p .address) (p .dma) (p .timing)) (λ e. g .control);
       store = refl;
     }

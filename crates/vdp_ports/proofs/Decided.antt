@@ -60,18 +60,19 @@ register-good : (k : Control) (w : ℕ) → GoodControl k → GoodStep (register
 register-good k w g =
     let p = parts k g in
     by-cond GoodStep (ltb (w / 256 % 32) 24) _ _
-    (λ e. record { control = control-of _ (lit≤ tt) (p .address) (dropped-good (k .dma) (p .dma, p .fill)); store = both e (lt-ltb (w % 256) 256 (omega arith)) })
+    (λ e. record { control = control-of _ (lit≤ tt) (p .address) (dropped-good (k .dma) (p .dma)) (p .timing); store = both e (lt-ltb (w % 256) 256 (omega arith)) })
     (λ e. record { control = g; store = refl })
 
 first-good : (k : Control) (w : ℕ) → w < 65536 → GoodControl k → GoodStep (firstHalf k w)
 first-good k w h g =
     let p = parts k g in
-    record { control = control-of _ (omega (arith, p .code)) (omega (arith, p .address)) (dropped-good (k .dma) (p .dma, p .fill)); store = refl }
+    record { control = control-of _ (omega (arith, p .code)) (omega (arith, p .address)) (dropped-good (k .dma) (p .dma)) (p .timing); store = refl }
 
 second-good : (s : State) (w : ℕ) → AllBytes (s .registers) → GoodControl (s .control) → GoodStep (secondHalf s w)
 second-good s w b g =
-    let d : DmaGood (dmaAfter s w) = by-cond DmaGood (eqb (w / 128 % 2) 1 && eqb (register s 1 / 16 % 2) 1) _ _ (λ e. started-good s b) (λ e. (parts (s .control) g .dma, g .fill)) in
-    record { control = control-of _ (omega arith) (omega arith) d; store = refl }
+    let p = parts (s .control) g in
+    let d : DmaGood (dmaAfter s w) = by-cond DmaGood (eqb (w / 128 % 2) 1 && eqb (register s 1 / 16 % 2) 1) _ _ (λ e. started-good s b) (λ e. p .dma) in
+    record { control = control-of _ (omega arith) (omega arith) d (p .timing); store = refl }
 
 pub control-good : (c : Chip) (w : ℕ) → w < 65536 → GoodChip c → GoodStep (controlStep (c .state) w)
 unfolding controlStep
@@ -121,15 +122,15 @@ module _ (c : Chip) (g : GoodChip c) where
       let d : DmaGood (fillBegun s w) =
       by-cond DmaGood (eqb (s .control .dma .kind) 1) _ _
       (λ e. (begun s (g .registers) 3 0 (w / 256) refl refl refl (or-true (eqb (w / 256) 0)), let f : w / 256 < 256 = omega arith in f))
-      (λ e. (p .dma, p .fill)) in
-      record { control = control-of _ (p .code) address-after d; store = written-good (access (s .control .port .code)) (s .control .port .address) w (p .address) h }
+      (λ e. p .dma) in
+      record { control = control-of _ (p .code) address-after d (p .timing); store = written-good (access (s .control .port .code)) (s .control .port .address) w (p .address) h }
 
   pub read-good : GoodStep (dataReadStep s)
   unfolding dataReadStep
-  read-good = let p = parts (s .control) (g .control) in record { control = control-of _ (p .code) address-after (p .dma, p .fill); store = refl }
+  read-good = let p = parts (s .control) (g .control) in record { control = control-of _ (p .code) address-after (p .dma) (p .timing); store = refl }
 
   pub status-good : GoodStep (statusStep s)
-  status-good = let p = parts (s .control) (g .control) in record { control = control-of _ (p .code) (p .address) (p .dma, p .fill); store = refl }
+  status-good = let p = parts (s .control) (g .control) in record { control = control-of _ (p .code) (p .address) (p .dma) (p .timing); store = refl }
 
   pub frame-good : GoodStep (frameStep s)
-  frame-good = let p = parts (s .control) (g .control) in record { control = control-of _ (p .code) (p .address) (p .dma, p .fill); store = refl }
+  frame-good = let p = parts (s .control) (g .control) in record { control = control-of _ (p .code) (p .address) (p .dma) (p .timing); store = refl }

@@ -1,7 +1,7 @@
 // The status word and what reading it clears (definition, Ports).
 ghost use mathlib.Core.Path.{_≡_};
 ghost use Rattle.vdp_state.specs.Answer.{first};
-ghost use Rattle.vdp_ports.specs.Status.{flag as flagged, statusWord, flagsCleared, statusStep, statusTests, statusRead};
+ghost use Rattle.vdp_ports.specs.Status.{flag as flagged, blanking as isBlanking, statusWord, flagsCleared, statusStep, statusTests, statusRead};
 use crate::refusal::filling;
 use crate::refusal::transferring;
 use vdp_state::answer::Answer;
@@ -22,17 +22,27 @@ fn flag(set: bool, n: u8) -> u8
     if set { n } else { 0 }
 }
 
+fn blanking(line: u16) -> bool
+    ensures { λ r. ⌜ r ≡ isBlanking line ⌝ }
+{
+    (224 <= line) & (line <= 260)
+}
+
 // The status word of a state.
 pub fn status_word(s: State) -> u16
     ensures { λ r. ⌜ r ≡ statusWord s ⌝ }
 {
     let flags = s.control.flags;
+    let timing = s.control.timing;
     let dma = filling(s);
+    let blank = blanking(timing.line);
+    let vertical = flag(timing.vertical, 0x80) as u16;
     let overflow = flag(flags.overflow, 0x40) as u16;
     let collision = flag(flags.collision, 0x20) as u16;
+    let blank_bit = flag(blank, 8) as u16;
     let busy = flag(dma, 2) as u16;
     let pal = flag(s.pal, 1) as u16;
-    0x3600 + overflow + collision + busy + pal
+    0x3600 + vertical + overflow + collision + blank_bit + busy + pal
 }
 
 // The control part with both sprite flags cleared, as a status read and a new frame leave them.

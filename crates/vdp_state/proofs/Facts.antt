@@ -1,5 +1,6 @@
 -- What GOOD says of a DMA state and of a control part, one fact at a time:
 --     dma-facts, state-dma                       the facts of a good DMA state
+--     tested, state-line                         the tests of GOOD on a control part; the line of a good state
 --     source-even, source-bits                   what its source is; transfer-source, copy-source make one
 --     none-remaining, some-remaining, working    when units remain
 --     parts, control-of                          the facts of a good control part, taken apart and put together
@@ -12,10 +13,28 @@ use lib.Dec.{eqb, leb, ltb}
 use Rattle.vdp_state.specs.declared.state.Control.{Control}
 use Rattle.vdp_state.specs.declared.state.Dma.{Dma}
 use Rattle.vdp_state.specs.declared.state.State.{State}
-use Rattle.vdp_state.specs.Good.{goodSource, goodDma, good, mostUnits}
+use Rattle.vdp_state.specs.declared.state.Timing.{Timing}
+use Rattle.vdp_state.specs.Good.{goodSource, goodDma, goodTiming, goodControl, good, mostUnits, lastLine}
 use Rattle.vdp_state.specs.Range.{GoodControl}
 use Rattle.vdp_state.proofs.Bools.{by-cases, both, both-left, both-right, or-true, either, equal-true, equal-false}
 use Rattle.vdp_state.proofs.Laws.{good-control}
+
+-- the tests of GOOD on a control part
+pub record Tested (k : Control) : Type 0 where
+  pub code : k .port .code ≤ 63
+  pub dma : goodDma (k .dma) ≡ true
+  pub timing : goodTiming (k .timing) ≡ true
+
+pub tested : (k : Control) → goodControl k ≡ true → Tested k
+tested k e =
+    let code : Bool = leb (k .port .code) 63 in
+    let dma : Bool = goodDma (k .dma) in
+    let two = both-left (code && dma) (goodTiming (k .timing)) e in
+    record {
+      code = leb-true (k .port .code) 63 (both-left code dma two);
+      dma = both-right code dma two;
+      timing = both-right (code && dma) (goodTiming (k .timing)) e;
+    }
 
 pub record DmaFacts (d : Dma) : Type 0 where
   pub kind : d .kind ≤ 4
@@ -41,8 +60,11 @@ dma-facts d e =
       fill = both-right (limits && exactly && source) fill e;
     }
 
+pub state-line : (s : State) → good s ≡ true → s .control .timing .line ≤ lastLine
+state-line s g = leb-true (s .control .timing .line) lastLine (tested (s .control) (good-control s g) .timing)
+
 pub state-dma : (s : State) → good s ≡ true → DmaFacts (s .control .dma)
-state-dma s g = dma-facts (s .control .dma) (both-right (leb (s .control .port .code) 63) (goodDma (s .control .dma)) (good-control s g))
+state-dma s g = dma-facts (s .control .dma) (tested (s .control) (good-control s g) .dma)
 
 -- ---- sources
 pub source-even : (source : ℕ) → goodSource 2 source ≡ true → (source % 2 ≡ 0) × (source < 2 ^ 24)
@@ -86,24 +108,24 @@ module _ (d : Dma) (f : DmaFacts d) where
       (λ e. leb-false (d .kind) 1 e)
 
 -- ---- control parts
-pub record GoodParts (k : Control) : Type 0 where
-  pub code : k .port .code ≤ 63
-  pub dma : goodDma (k .dma) ≡ true
-  pub address : k .port .address < 65536
-  pub fill : k .dma .fill < 256
-
-pub parts : (k : Control) → GoodControl k → GoodParts k
-parts k g =
-    record {
-      code = leb-true (k .port .code) 63 (both-left (leb (k .port .code) 63) (goodDma (k .dma)) (g .good));
-      dma = both-right (leb (k .port .code) 63) (goodDma (k .dma)) (g .good);
-      address = g .address;
-      fill = g .fill;
-    }
-
 -- a DMA state that GOOD admits, with a fill byte of 8 bits
 abbrev pub DmaGood : Dma → Type 0
 DmaGood d = (goodDma d ≡ true) × (d .fill < 256)
 
-pub control-of : (k : Control) → k .port .code ≤ 63 → k .port .address < 65536 → DmaGood (k .dma) → GoodControl k
-control-of k c a d = record { good = both (le-leb (k .port .code) 63 c) (d .0); address = a; fill = d .1 }
+-- a timing that GOOD admits, with a line counter of 8 bits
+abbrev pub TimingGood : Timing → Type 0
+TimingGood t = (goodTiming t ≡ true) × (t .counter < 256)
+
+pub record GoodParts (k : Control) : Type 0 where
+  pub code : k .port .code ≤ 63
+  pub address : k .port .address < 65536
+  pub dma : DmaGood (k .dma)
+  pub timing : TimingGood (k .timing)
+
+pub parts : (k : Control) → GoodControl k → GoodParts k
+parts k g =
+    let t = tested k (g .good) in
+    record { code = t .code; address = g .address; dma = (t .dma, g .fill); timing = (t .timing, g .counter) }
+
+pub control-of : (k : Control) → k .port .code ≤ 63 → k .port .address < 65536 → DmaGood (k .dma) → TimingGood (k .timing) → GoodControl k
+control-of k c a d t = record { good = both (both (le-leb (k .port .code) 63 c) (d .0)) (t .0); address = a; fill = d .1; counter = t .1 }

@@ -6,6 +6,7 @@ use lib.Dec.{leb, ltb, eqb}
 use Rattle.vdp_state.specs.declared.state.Dma.{Dma}
 use Rattle.vdp_state.specs.declared.state.Control.{Control}
 use Rattle.vdp_state.specs.declared.state.State.{State}
+use Rattle.vdp_state.specs.declared.state.Timing.{Timing}
 use Rattle.vdp_state.specs.Colour.{colourWord}
 
 -- the test passes at every element
@@ -42,9 +43,16 @@ goodDma d =
     && goodSource (d .kind) (d .source)
     && (eqb (d .fill) 0 || eqb (d .kind) 3)
 
--- "The code is not above 63."
+-- "The line is not above 261."
+abbrev pub lastLine : ℕ
+lastLine = 261
+
+abbrev pub goodTiming : Timing → Bool
+goodTiming t = leb (t .line) lastLine
+
+-- "The code is not above 63."; the DMA state; the timing
 abbrev pub goodControl : Control → Bool
-goodControl c = leb (c .port .code) 63 && goodDma (c .dma)
+goodControl c = leb (c .port .code) 63 && goodDma (c .dma) && goodTiming (c .timing)
 
 unfoldable pub good : State → Bool
 good s = all isColour (s .cram) && all isScroll (s .vsram) && goodControl (s .control)

@@ -6,3 +6,4 @@ pub mod Good
 pub mod Range
 pub mod Same
 pub mod State
+pub mod Worked

@@ -16,11 +16,12 @@ use Rattle.vdp_state.specs.State.{Chip}
 abbrev pub AllBytes : List ℕ → Type 0
 AllBytes m = (i : ℕ) → getD m i 0 < 256
 
--- a control part that GOOD admits, with an address of 16 bits and a fill byte of 8
+-- a control part that GOOD admits, with an address of 16 bits, and a fill byte and a line counter of 8
 pub record GoodControl (c : Control) : Type 0 where
   pub good : goodControl c ≡ true
   pub address : c .port .address < 65536
   pub fill : c .dma .fill < 256
+  pub counter : c .timing .counter < 256
 
 -- a GOOD state of bytes and words beside 65,536 bytes of VRAM
 pub record GoodChip (c : Chip) : Type 0 where

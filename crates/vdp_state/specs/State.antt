@@ -6,6 +6,7 @@ use Rattle.vdp_state.specs.declared.state.Dma.{Dma}
 use Rattle.vdp_state.specs.declared.state.Flags.{Flags}
 use Rattle.vdp_state.specs.declared.state.Port.{Port}
 use Rattle.vdp_state.specs.declared.state.State.{State}
+use Rattle.vdp_state.specs.declared.state.Timing.{Timing}
 
 -- a state and the VRAM that is lent beside it
 pub record Chip : Type 0 where
@@ -28,10 +29,13 @@ abbrev pub withControl : State → Control → State
 withControl s c = record { registers = s .registers; cram = s .cram; vsram = s .vsram; control = c; pal = s .pal }
 
 abbrev pub withPort : Control → Port → Control
-withPort c p = record { port = p; dma = c .dma; flags = c .flags }
+withPort c p = record { port = p; dma = c .dma; flags = c .flags; timing = c .timing }
 
 abbrev pub withDma : Control → Dma → Control
-withDma c d = record { port = c .port; dma = d; flags = c .flags }
+withDma c d = record { port = c .port; dma = d; flags = c .flags; timing = c .timing }
 
 abbrev pub withFlags : Control → Flags → Control
-withFlags c f = record { port = c .port; dma = c .dma; flags = f }
+withFlags c f = record { port = c .port; dma = c .dma; flags = f; timing = c .timing }
+
+abbrev pub withTiming : Control → Timing → Control
+withTiming c t = record { port = c .port; dma = c .dma; flags = c .flags; timing = t }

@@ -1,11 +1,13 @@
 // The fresh state (definition, The state).
 ghost use mathlib.Core.Path.{_≡_};
 ghost use Rattle.vdp_state.specs.Fresh.{fresh as freshState};
+use crate::good::LAST_LINE;
 use crate::state::Control;
 use crate::state::Dma;
 use crate::state::Flags;
 use crate::state::Port;
 use crate::state::State;
+use crate::state::Timing;
 
 pub fn fresh(pal: bool) -> State
     ensures { λ r. ⌜ r ≡ freshState pal ⌝ }
@@ -29,6 +31,12 @@ pub fn fresh(pal: bool) -> State
             flags: Flags {
                 overflow: false,
                 collision: false,
+            },
+            timing: Timing {
+                line: LAST_LINE,
+                counter: 0,
+                vertical: false,
+                horizontal: false,
             },
         },
         pal,

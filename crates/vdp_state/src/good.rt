@@ -9,6 +9,9 @@ use crate::state::State;
 // The most units that can remain.
 pub const MOST_UNITS: u32 = 65536;
 
+// The last line of a frame.
+pub const LAST_LINE: u16 = 261;
+
 // Every word is looked at, whatever the others are: a loop without a way out runs on many words at once.
 fn colours_good(words: &[u16]) -> bool
     ensures { λ r. ⌜ r ≡ all isColour (now (words .entry)) ⌝ }
@@ -56,7 +59,7 @@ fn dma_good(d: Dma) -> bool
 pub fn control_good(c: Control) -> bool
     ensures { λ r. ⌜ r ≡ goodControl c ⌝ }
 {
-    (c.port.code <= 63) & dma_good(c.dma)
+    (c.port.code <= 63) & dma_good(c.dma) & (c.timing.line <= LAST_LINE)
 }
 
 pub fn good(s: State) -> bool

@@ -1,5 +1,5 @@
-// The chip's state (definition, The state) and a step, which is all that a port access, a DMA unit, a line or a new
-// frame does to it: a new control part and at most one stored cell.
+// The chip's state (definition, The state) and a step, which is all that a port access, a DMA unit, a line, a new
+// frame, a line that begins or an acknowledge does to it: a new control part and at most one stored cell.
 
 // The address and code registers, and whether the second half of a command is awaited.
 #[repr(C)]
@@ -25,12 +25,23 @@ pub struct Flags {
     pub collision: bool,
 }
 
+// The line that the display is on, the line counter, status bit 7 (the vertical interrupt has come), and whether a
+// level 4 interrupt waits.
+#[repr(C)]
+pub struct Timing {
+    pub line: u16,
+    pub counter: u8,
+    pub vertical: bool,
+    pub horizontal: bool,
+}
+
 // The part of the state that a tape record keeps whole.
 #[repr(C)]
 pub struct Control {
     pub port: Port,
     pub dma: Dma,
     pub flags: Flags,
+    pub timing: Timing,
 }
 
 #[repr(C)]

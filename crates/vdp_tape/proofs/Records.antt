@@ -16,13 +16,13 @@ use Rattle.vdp_state.specs.declared.state.Step.{Step}
 use Rattle.vdp_state.specs.declared.state.Store.{Store}
 use Rattle.vdp_state.specs.declared.state.Store.the-variants.{Nothing, Vram, Cram, Vsram, Register}
 use Rattle.vdp_state.specs.Colour.{colourWord}
-use Rattle.vdp_state.specs.Good.{isColour, isScroll, goodControl}
+use Rattle.vdp_state.specs.Good.{isColour, isScroll, goodControl, lastLine}
 use Rattle.vdp_state.specs.Range.{goodStore, GoodStep}
 use Rattle.vdp_state.specs.Same.{same}
 use Rattle.vdp_state.proofs.Bools.{both-left, both-right, both}
 use Rattle.vdp_state.proofs.Facts.{dma-facts, source-bits, parts}
 use Rattle.vdp_state.proofs.Same.{same-equal, same-self}
-use Rattle.vdp_tape.specs.Record.{keptOf, storeOf, flagBit, Field, layout, Reading, reading, bytesOf, numberAt, written, recordOf, readFrom, stepOf, goodRecord}
+use Rattle.vdp_tape.specs.Record.{keptOf, storeOf, flagBit, flagPair, firstFlag, secondFlag, Field, layout, Reading, reading, bytesOf, numberAt, written, recordOf, readFrom, stepOf, goodRecord}
 
 -- ---- a number in bytes
 -- so many bytes hold n
@@ -116,16 +116,16 @@ kept-fits (Register i b) e =
     let f : b < 256 = ltb-true b 256 (both-right (ltb i 24) (ltb b 256) e) in
     record { place = omega arith; content = omega arith; back = ap₂ Register (index-back i (omega arith)) (index-back b f) }
 
-pub record FlagsFit (o c : Bool) : Type 0 where
-  pub fits : InBytes 1 (flagBit o + 2 * flagBit c)
-  pub overflow : eqb ((flagBit o + 2 * flagBit c) % 2) 1 ≡ o
-  pub collision : eqb ((flagBit o + 2 * flagBit c) / 2 % 2) 1 ≡ c
+pub record PairFits (a b : Bool) : Type 0 where
+  pub fits : InBytes 1 (flagPair a b)
+  pub one : firstFlag (flagPair a b) ≡ a
+  pub two : secondFlag (flagPair a b) ≡ b
 
-pub flags-fit : (o c : Bool) → FlagsFit o c
-flags-fit true true = record { fits = refl; overflow = refl; collision = refl }
-flags-fit true false = record { fits = refl; overflow = refl; collision = refl }
-flags-fit false true = record { fits = refl; overflow = refl; collision = refl }
-flags-fit false false = record { fits = refl; overflow = refl; collision = refl }
+pub pair-fits : (a b : Bool) → PairFits a b
+pair-fits true true = record { fits = refl; one = refl; two = refl }
+pair-fits true false = record { fits = refl; one = refl; two = refl }
+pair-fits false true = record { fits = refl; one = refl; two = refl }
+pair-fits false false = record { fits = refl; one = refl; two = refl }
 
 pub flag-bit-fits : (b : Bool) → InBytes 1 (flagBit b) × (eqb (flagBit b) 1 ≡ b)
 flag-bit-fits true = (refl, refl)
@@ -139,23 +139,27 @@ module _ (t : Step) (g : GoodStep t) where
   fit =
       let x = kept-fits (t .store) (g .store) in
       let p = parts k (g .control) in
-      let d = dma-facts (k .dma) (p .dma) in
+      let d = dma-facts (k .dma) (p .dma .0) in
       let bits = source-bits (k .dma .kind) (k .dma .source) (d .source) in
       let address : InBytes 2 (k .port .address) = omega (arith, p .address) in
       let code : InBytes 1 (k .port .code) = omega (arith, p .code) in
       let kind : InBytes 1 (k .dma .kind) = omega (arith, d .kind) in
       let remaining : InBytes 3 (k .dma .remaining) = omega (arith, d .most) in
       let source : InBytes 3 (k .dma .source) = omega (arith, bits) in
-      let fill : InBytes 1 (k .dma .fill) = omega (arith, p .fill) in
-      let flags = flags-fit (k .flags .overflow) (k .flags .collision) .fits in
+      let fill : InBytes 1 (k .dma .fill) = omega (arith, p .dma .1) in
+      let flags = pair-fits (k .flags .overflow) (k .flags .collision) .fits in
+      let line : InBytes 2 (k .timing .line) = omega (arith, leb-true (k .timing .line) lastLine (p .timing .0)) in
+      let counter : InBytes 1 (k .timing .counter) = omega (arith, p .timing .1) in
+      let interrupts = pair-fits (k .timing .vertical) (k .timing .horizontal) .fits in
       row refl (row refl (row (kind-fits (t .store)) (row (x .place) (row (x .content) (row address (row code (row (flag-bit-fits (k .port .pending) .0)
-      (row kind (row remaining (row source (row fill (row flags (row refl end)))))))))))))
+      (row kind (row remaining (row source (row fill (row flags (row line (row counter (row interrupts (row refl end))))))))))))))))
 
   pub read-back : stepOf (recordOf t) ≡ t
   read-back =
-      let f = flags-fit (k .flags .overflow) (k .flags .collision) in
+      let f = pair-fits (k .flags .overflow) (k .flags .collision) in
+      let i = pair-fits (k .timing .vertical) (k .timing .horizontal) in
       fields-back layout reading t [] fit
-      ∙ ap₂ (λ (c : Control) (x : Store). record { control = c; store = x }) (simp (flag-bit-fits (k .port .pending) .1, f .overflow, f .collision)) (kept-fits (t .store) (g .store) .back)
+      ∙ ap₂ (λ (c : Control) (x : Store). record { control = c; store = x }) (simp (flag-bit-fits (k .port .pending) .1, f .one, f .two, i .one, i .two)) (kept-fits (t .store) (g .store) .back)
 
   pub record-good : goodRecord (recordOf t) ≡ true
   record-good =

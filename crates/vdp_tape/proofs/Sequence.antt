@@ -23,6 +23,9 @@ use Rattle.vdp_ports.specs.Data.{dataTests, dataWord, dataReadStep}
 use Rattle.vdp_ports.specs.Frame.{frameTests, frameStep}
 use Rattle.vdp_ports.specs.Status.{statusTests, statusStep, statusWord}
 use Rattle.vdp_ports.proofs.Decided.{control-good, write-good, read-good, status-good, frame-good}
+use Rattle.vdp_timing.specs.Interrupt.{acknowledgeTests, acknowledgeStep}
+use Rattle.vdp_timing.specs.LineBegins.{lineBeginsTests, lineBeginsStep}
+use Rattle.vdp_timing.proofs.Decided.{begins-good, acknowledge-good}
 use Rattle.vdp_dma.specs.Run.{unitsMade}
 use Rattle.vdp_dma.proofs.Decided.{units-good}
 use Rattle.vdp_line.specs.Line.{lineTests, lineStep, visits}
@@ -31,7 +34,7 @@ use Rattle.vdp_tape.specs.Book.{Act, Make, StepBack, Book, newBook, ente
 use Rattle.vdp_tape.specs.Demand.{serve, Fits, AllFit, Seen, servedAll, enteredAll, Demand3, servedTo, enteredTo, StepBackTakesBack}
 use Rattle.vdp_tape.specs.Number.{capacity, recordedNumber}
 use Rattle.vdp_tape.specs.OneStep.{OffVram}
-use Rattle.vdp_tape.specs.Recorded.{Call, ControlWrite, DataWrite, DataRead, StatusRead, NewFrame, Run, Line, planOf, recorded, plainOf, withoutTape, RecordedAsPlain}
+use Rattle.vdp_tape.specs.Recorded.{Call, ControlWrite, DataWrite, DataRead, StatusRead, NewFrame, LineBegins, Acknowledge, Run, Line, planOf, recorded, plainOf, withoutTape, RecordedAsPlain}
 use Rattle.vdp_tape.specs.Recorder.{Recorder, recorder, recordStep, recordNext, recordSteps, Plan, tapeOutcomeAt, recordedBy}
 use Rattle.vdp_tape.specs.StepBack.{backTests}
 use Rattle.vdp_tape.proofs.Demand.{Alike, Together, plan-together, back-together}
@@ -46,6 +49,8 @@ in-range (DataWrite w) f c g = (write-good c g w f, tt)
 in-range DataRead f c g = (read-good c g, tt)
 in-range StatusRead f c g = (status-good c g, tt)
 in-range NewFrame f c g = (frame-good c g, tt)
+in-range LineBegins f c g = (begins-good c g, tt)
+in-range (Acknowledge level) f c g = (acknowledge-good c g level, tt)
 in-range (Run cartridge ram budget) f c g = units-good cartridge ram (f .0) (f .1) (unitsMade (c .state) budget) c g (omega arith)
 in-range (Line n pixels) f c g = (line-good c g n, tt)
 
@@ -123,6 +128,8 @@ plain-is (DataWrite w) c = refl
 plain-is DataRead c = one-answered c (first (dataTests c)) (dataWord c) (dataReadStep (c .state)) tt
 plain-is StatusRead c = one-answered c (first (statusTests (c .state))) (statusWord (c .state)) (statusStep (c .state)) tt
 plain-is NewFrame c = one-answered c (first (frameTests (c .state))) 0 (frameStep (c .state)) tt
+plain-is LineBegins c = one-answered c (first (lineBeginsTests (c .state))) 0 (lineBeginsStep (c .state)) tt
+plain-is (Acknowledge level) c = one-answered c (first (acknowledgeTests (c .state) level)) 0 (acknowledgeStep (c .state) level) tt
 plain-is (Run cartridge ram budget) c = refl
 plain-is (Line n pixels) c = one-answered c (first (lineTests c n pixels)) (visits c n) (lineStep c n) tt ∙ by-cases (eqb (first (lineTests c n pixels)) 0) (λ e. simp e) (λ e. simp e)
 

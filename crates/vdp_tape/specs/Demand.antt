@@ -8,7 +8,7 @@ use Rattle.vdp_state.specs.Range.{AllBytes, GoodChip}
 use Rattle.vdp_state.specs.State.{chip}
 use Rattle.vdp_tape.specs.Book.{Act, Make, StepBack, Book, newBook, BookOutcome, enter}
 use Rattle.vdp_tape.specs.Number.{capacity}
-use Rattle.vdp_tape.specs.Recorded.{ControlWrite, DataWrite, DataRead, StatusRead, NewFrame, Run, Line, recorded}
+use Rattle.vdp_tape.specs.Recorded.{ControlWrite, DataWrite, DataRead, StatusRead, NewFrame, LineBegins, Acknowledge, Run, Line, recorded}
 use Rattle.vdp_tape.specs.Recorder.{Recorder, recorder, TapeOutcome}
 use Rattle.vdp_tape.specs.StepBack.{stepBack}
 
@@ -24,6 +24,8 @@ Fits (Make (DataWrite w)) = w < 65536
 Fits (Make DataRead) = Unit {0}
 Fits (Make StatusRead) = Unit {0}
 Fits (Make NewFrame) = Unit {0}
+Fits (Make LineBegins) = Unit {0}
+Fits (Make (Acknowledge level)) = Unit {0}
 Fits (Make (Run cartridge ram budget)) = AllBytes cartridge × AllBytes ram
 Fits (Make (Line n pixels)) = Unit {0}
 Fits (StepBack k) = Unit {0}

@@ -36,9 +36,19 @@ storeOf c =
 abbrev pub flagBit : Bool → ℕ
 flagBit b = cond b 1 0
 
--- "the version, 1"
+-- two flags in a byte: 1 if the first is set, plus 2 if the second is
+abbrev pub flagPair : Bool → Bool → ℕ
+flagPair a b = flagBit a + 2 * flagBit b
+
+abbrev pub firstFlag : ℕ → Bool
+firstFlag n = eqb (n % 2) 1
+
+abbrev pub secondFlag : ℕ → Bool
+secondFlag n = eqb (n / 2 % 2) 1
+
+-- "the version, 2"
 abbrev pub version : ℕ
-version = 1
+version = 2
 
 -- a field: how many bytes it has, and the number that it holds for a step
 pub record Field : Type 0 where
@@ -63,8 +73,11 @@ layout =
     ∷ field 3 (λ t. t .control .dma .remaining)
     ∷ field 3 (λ t. t .control .dma .source)
     ∷ field 1 (λ t. t .control .dma .fill)
-    ∷ field 1 (λ t. flagBit (t .control .flags .overflow) + 2 * flagBit (t .control .flags .collision))
-    ∷ field 11 (λ t. 0)
+    ∷ field 1 (λ t. flagPair (t .control .flags .overflow) (t .control .flags .collision))
+    ∷ field 2 (λ t. t .control .timing .line)
+    ∷ field 1 (λ t. t .control .timing .counter)
+    ∷ field 1 (λ t. flagPair (t .control .timing .vertical) (t .control .timing .horizontal))
+    ∷ field 7 (λ t. 0)
     ∷ []
 
 -- the step that the numbers of the fields read as, in the layout's order
@@ -73,12 +86,18 @@ Reading [] = Step
 Reading (f ∷ fs) = ℕ → Reading fs
 
 abbrev pub reading : Reading layout
-reading v size kind place content address code pending dma remaining source fill flags zeros =
+reading v size kind place content address code pending dma remaining source fill flags line counter interrupts zeros =
     record {
       control = record {
         port = record { address = address; code = code; pending = eqb pending 1 };
         dma = record { kind = dma; remaining = remaining; source = source; fill = fill };
-        flags = record { overflow = eqb (flags % 2) 1; collision = eqb (flags / 2 % 2) 1 };
+        flags = record { overflow = firstFlag flags; collision = secondFlag flags };
+        timing = record {
+          line = line;
+          counter = counter;
+          vertical = firstFlag interrupts;
+          horizontal = secondFlag interrupts;
+        };
       };
       store = storeOf (kept kind place content);
     }

@@ -9,6 +9,8 @@ use Rattle.vdp_ports.specs.Control.{controlTests, controlStep, controlWrite}
 use Rattle.vdp_ports.specs.Data.{dataTests, dataWriteStep, dataReadStep, dataWord, dataWrite, dataRead}
 use Rattle.vdp_ports.specs.Frame.{frameTests, frameStep, newFrame}
 use Rattle.vdp_ports.specs.Status.{statusTests, statusStep, statusWord, statusRead}
+use Rattle.vdp_timing.specs.Interrupt.{acknowledgeTests, acknowledgeStep, acknowledge}
+use Rattle.vdp_timing.specs.LineBegins.{lineBeginsTests, lineBeginsStep, lineBegins}
 use Rattle.vdp_dma.specs.Run.{runTests, unitsMade, run}
 use Rattle.vdp_dma.specs.Unit.{unit}
 use Rattle.vdp_line.specs.Line.{lineTests, lineStep, visits, line}
@@ -22,10 +24,12 @@ pub data Call : Type 0 where
   DataRead : Call
   StatusRead : Call
   NewFrame : Call
+  LineBegins : Call
+  Acknowledge : ℕ → Call
   Run : List ℕ → List ℕ → ℕ → Call
   Line : ℕ → List ℕ → Call
 
--- "A port access, a DMA unit, a line and a new frame are one step each."
+-- "A port access, a DMA unit, a line, a new frame, a line that begins and an acknowledge are one step each."
 abbrev pub once : List Test → ℕ → (Chip → Step) → Plan
 once tests result step = record { tests = tests; result = result; steps = 1; step = step }
 
@@ -36,6 +40,8 @@ planOf (DataWrite w) c = once (dataTests c) 0 (λ x. dataWriteStep (x .state) w)
 planOf DataRead c = once (dataTests c) (dataWord c) (λ x. dataReadStep (x .state))
 planOf StatusRead c = once (statusTests (c .state)) (statusWord (c .state)) (λ x. statusStep (x .state))
 planOf NewFrame c = once (frameTests (c .state)) 0 (λ x. frameStep (x .state))
+planOf LineBegins c = once (lineBeginsTests (c .state)) 0 (λ x. lineBeginsStep (x .state))
+planOf (Acknowledge level) c = once (acknowledgeTests (c .state) level) 0 (λ x. acknowledgeStep (x .state) level)
 planOf (Run cartridge ram budget) c =
     record {
       tests = runTests c cartridge ram budget;
@@ -56,6 +62,8 @@ plainOf (DataWrite w) c = dataWrite c w
 plainOf DataRead c = outcome (dataRead c) (c .vram)
 plainOf StatusRead c = outcome (statusRead (c .state)) (c .vram)
 plainOf NewFrame c = outcome (newFrame (c .state)) (c .vram)
+plainOf LineBegins c = outcome (lineBegins (c .state)) (c .vram)
+plainOf (Acknowledge level) c = outcome (acknowledge (c .state) level) (c .vram)
 plainOf (Run cartridge ram budget) c = run c cartridge ram budget
 plainOf (Line n pixels) c = outcome (line c n pixels .answer) (c .vram)
 

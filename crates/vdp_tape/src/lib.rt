@@ -5,3 +5,4 @@ pub mod number;
 pub mod record;
 pub mod recorder;
 pub mod step_back;
+pub mod timing;

@@ -1,7 +1,7 @@
 // A tape record (definition, The tape): the step that undoes a step, in 32 bytes.
 ghost use mathlib.Core.Path.{_≡_};
 ghost use Prim.Native.Nat.{_+_, _*_};
-ghost use Rattle.vdp_tape.specs.Record.{keptOf, storeOf, flagBit, numberAt, recordOf, stepOf, goodRecord};
+ghost use Rattle.vdp_tape.specs.Record.{keptOf, storeOf, flagBit, flagPair, firstFlag, secondFlag, numberAt, recordOf, stepOf, goodRecord};
 ghost use Rattle.vdp_state.specs.Range.{goodStore};
 ghost use Rattle.vdp_state.specs.Same.{same as sameBytes};
 use vdp_state::cell::byte_at;
@@ -14,9 +14,10 @@ use vdp_state::state::Flags;
 use vdp_state::state::Port;
 use vdp_state::state::Step;
 use vdp_state::state::Store;
+use vdp_state::state::Timing;
 
 // The layout: the version, and where the fields stand that are read.
-const VERSION: u8 = 1;
+const VERSION: u8 = 2;
 
 const KEPT_KIND: u8 = 3;
 
@@ -39,6 +40,12 @@ const SOURCE: u8 = 16;
 const FILL: u8 = 19;
 
 const FLAGS: u8 = 20;
+
+const LINE: u8 = 21;
+
+const COUNTER: u8 = 23;
+
+const INTERRUPTS: u8 = 24;
 
 // A cell's kind, place and content, as a record keeps them.
 pub struct KeptCell {
@@ -99,15 +106,27 @@ fn flag_bit(b: bool) -> u8
     if b { 1 } else { 0 }
 }
 
-// The sprite flags as a byte.
-fn flag_byte(f: Flags) -> u8
-    ensures { λ r. ⌜ r ≡ flagBit (f .overflow) + 2 * flagBit (f .collision) ⌝ }
+// Two flags as a byte.
+fn flag_pair(a: bool, b: bool) -> u8
+    ensures { λ r. ⌜ r ≡ flagPair a b ⌝ }
 {
-    if f.overflow {
-        if f.collision { 3 } else { 1 }
+    if a {
+        if b { 3 } else { 1 }
     } else {
-        if f.collision { 2 } else { 0 }
+        if b { 2 } else { 0 }
     }
+}
+
+fn first_flag(n: u8) -> bool
+    ensures { λ r. ⌜ r ≡ firstFlag n ⌝ }
+{
+    n % 2 == 1
+}
+
+fn second_flag(n: u8) -> bool
+    ensures { λ r. ⌜ r ≡ secondFlag n ⌝ }
+{
+    n / 2 % 2 == 1
 }
 
 // The 32 bytes of a step.
@@ -119,7 +138,10 @@ pub fn record_of(t: Step) -> [u8; 32]
     let p = t.control.port;
     let d = t.control.dma;
     let pending = flag_bit(p.pending);
-    let flags = flag_byte(t.control.flags);
+    let f = t.control.flags;
+    let flags = flag_pair(f.overflow, f.collision);
+    let timing = t.control.timing;
+    let interrupts = flag_pair(timing.vertical, timing.horizontal);
     [
         VERSION,
         0,
@@ -142,10 +164,10 @@ pub fn record_of(t: Step) -> [u8; 32]
         (d.source % 256) as u8,
         d.fill,
         flags,
-        0,
-        0,
-        0,
-        0,
+        (timing.line / 256 % 256) as u8,
+        (timing.line % 256) as u8,
+        timing.counter,
+        interrupts,
         0,
         0,
         0,
@@ -190,6 +212,7 @@ fn control_of(bytes: &[u8]) -> Control
     ensures { λ r. ⌜ r ≡ stepOf (now (bytes .entry)) .control ⌝ }
 {
     let flags = one_at(bytes, FLAGS);
+    let interrupts = one_at(bytes, INTERRUPTS);
     Control {
         port: Port {
             address: two_at(bytes, ADDRESS),
@@ -203,8 +226,14 @@ fn control_of(bytes: &[u8]) -> Control
             fill: one_at(bytes, FILL),
         },
         flags: Flags {
-            overflow: flags % 2 == 1,
-            collision: flags / 2 % 2 == 1,
+            overflow: first_flag(flags),
+            collision: second_flag(flags),
+        },
+        timing: Timing {
+            line: two_at(bytes, LINE),
+            counter: one_at(bytes, COUNTER),
+            vertical: first_flag(interrupts),
+            horizontal: second_flag(interrupts),
         },
     }
 }

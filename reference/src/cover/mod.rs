@@ -1,13 +1,16 @@
 //! Which answers and rules streams meet, and which they never meet.
 //! The counts come from looking at each call from outside, before and after it; for the sprite
-//! flags and for cut runs also from what the calls before it did.
+//! flags, for cut runs and for frames also from what the calls before it did.
 
 mod cuts;
 mod flags;
+mod frames;
 mod lines;
 mod ports;
 mod refused;
+mod refused_timing;
 mod runs;
+mod timing;
 
 use std::collections::BTreeMap;
 
@@ -17,9 +20,10 @@ use crate::replay::{Command, Machine};
 use crate::tape::{Record, RECORD_BYTES};
 use cuts::Cuts;
 use flags::Flags;
+use frames::Frames;
 
 /// The answers that each op may give (definition, Numbers a call may answer).
-const ANSWERS: [(u8, &[Answer]); 12] = [
+const ANSWERS: [(u8, &[Answer]); 16] = [
     (1, &[0, 1, 2, 3, 6]),
     (2, &[0, 1, 2, 3, 6]),
     (3, &[0, 1, 2, 3, 6]),
@@ -32,6 +36,10 @@ const ANSWERS: [(u8, &[Answer]); 12] = [
     (10, &[0, 1, 2, 8, 10]),
     (11, &[0, 2, 5]),
     (12, &[0]),
+    (13, &[0, 1, 2, 4, 6]),
+    (14, &[0, 1, 2, 6, 10]),
+    (15, &[0, 1]),
+    (16, &[0, 1]),
 ];
 
 /// How often each answer and each rule was met.
@@ -48,10 +56,11 @@ impl Tally {
                 tally.answers.insert((op, *number), 0);
             }
         }
-        let calls = (1..=9).map(recorded).collect();
+        let calls = (1..=9).chain([13, 14]).map(recorded).collect();
         let one_call = [calls, ports::rules(), runs::rules(), lines::rules(), refused::rules()];
-        let more_calls = [flags::rules(), cuts::rules()];
-        for rule in one_call.concat().into_iter().chain(more_calls.concat()) {
+        let of_timing = [timing::rules(), refused_timing::rules()];
+        let more_calls = [flags::rules(), cuts::rules(), frames::rules()];
+        for rule in [one_call.concat(), of_timing.concat(), more_calls.concat()].concat() {
             tally.rules.insert(rule, 0);
         }
         tally
@@ -74,12 +83,13 @@ impl Tally {
         let mut machine = Machine::new();
         let mut past = Past::default();
         for command in commands {
-            if (1..=12).contains(&command.op) {
+            if command.calls() {
                 self.call(&mut machine, &mut past, command);
             } else if command.op != 48 {
                 machine.apply(command);
                 past.flags.set_up(command);
                 past.cuts.set_up();
+                past.frames.set_up(command);
             }
         }
     }
@@ -91,8 +101,10 @@ impl Tally {
         *self.answers.entry((command.op, number)).or_insert(0) += 1;
         past.flags.count(self, &before, machine, number);
         past.cuts.count(self, &before, machine, number);
+        past.frames.count(self, &before, machine, number);
         if number != 0 {
             refused::count(self, &before, number);
+            refused_timing::count(self, &before, number);
             return;
         }
         match command.op {
@@ -100,8 +112,10 @@ impl Tally {
             7 => runs::count_run(self, &before),
             8 => lines::count(self, &before, machine),
             10 => runs::count_back(self, &before, machine),
-            _ => lines::count_row(self, &before),
+            11 => lines::count_row(self, &before),
+            _ => (),
         }
+        timing::count(self, &before);
         runs::count_most_remaining(self, &before);
         if before.taped() {
             self.meet(&recorded(command.op));
@@ -139,6 +153,7 @@ impl Tally {
 struct Past {
     flags: Flags,
     cuts: Cuts,
+    frames: Frames,
 }
 
 /// The machine as a call found it, and the call.
@@ -148,8 +163,9 @@ pub struct Before {
 }
 
 impl Before {
+    /// Is it a recorded call?
     pub fn taped(&self) -> bool {
-        self.machine.recorded && self.command.op <= 9
+        self.machine.recorded && self.command.recordable()
     }
 
     /// A record of the tape, the lowest one being number 0.

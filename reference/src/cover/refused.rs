@@ -8,11 +8,11 @@ use crate::answer::{
 use crate::dma::{self, word_from};
 use crate::draw;
 use crate::replay::{Buffer, Machine};
-use crate::state::{State, COPY, FILL, TRANSFER, UNITS_MOST};
-use crate::tape::{good_record, remaining_of, Record, RECORD_BYTES};
+use crate::state::{State, COPY, FILL, LAST_LINE, TRANSFER, UNITS_MOST};
+use crate::tape::{good_record, line_of, remaining_of, Record, RECORD_BYTES, VERSION};
 
-/// Parts of a record, each with the bytes it takes.
-const PARTS: [(&str, usize, usize); 14] = [
+/// Parts of a record, each with the bytes it takes. The last two hold anything.
+const PARTS: [(&str, usize, usize); 17] = [
     ("version", 0, 1),
     ("length", 1, 3),
     ("cell kind", 3, 4),
@@ -25,8 +25,11 @@ const PARTS: [(&str, usize, usize); 14] = [
     ("source", 16, 19),
     ("fill byte", 19, 20),
     ("flags", 20, 21),
-    ("zeros", 21, 32),
+    ("line", 21, 23),
+    ("vertical and horizontal", 24, 25),
+    ("zeros", 25, 32),
     ("address", 8, 10),
+    ("line counter", 23, 24),
 ];
 
 const RULES: &[&str] = &[
@@ -43,6 +46,9 @@ const RULES: &[&str] = &[
     "bad state: copy source over 16 bits",
     "bad state: source without a use",
     "bad state: fill byte without a fill",
+    "bad state: line",
+    "bad state: line 262, else good",
+    "bad state: line 65,535, else good",
     "bad buffer: VRAM short",
     "bad buffer: VRAM long",
     "bad buffer: pixels short",
@@ -83,14 +89,27 @@ const RULES: &[&str] = &[
     "bad record: the top one",
     "bad record: a deeper one",
     "bad record: one unit above the most, else good",
+    "bad record: version 1, else good",
+    "bad record: version 1 as it was, without timing",
+    "bad record: line 262, else good",
+    "bad record: 4 for vertical and horizontal, else good",
 ];
 
 pub fn rules() -> Vec<String> {
     let mut rules = names(RULES);
-    let parts = PARTS.iter().take(13);
-    rules.extend(parts.map(|(part, _, _)| format!("bad record: {part}")));
+    rules.extend(parts().map(|(part, _, _)| format!("bad record: {part}")));
+    rules.extend((25..RECORD_BYTES).map(not_zero));
     rules.extend(REASONS.iter().map(|reason| format!("not modelled: {reason}")));
     rules
+}
+
+/// The parts that can be bad.
+fn parts() -> impl Iterator<Item = &'static (&'static str, usize, usize)> {
+    PARTS.iter().take(15)
+}
+
+fn not_zero(at: usize) -> String {
+    format!("bad record: byte {at} is not 0, else good")
 }
 
 const REASONS: [&str; 10] = [
@@ -107,16 +126,17 @@ const REASONS: [&str; 10] = [
 ];
 
 pub fn count(tally: &mut Tally, before: &Before, number: u8) {
+    let op = before.command.op;
     match number {
         BAD_STATE => bad_state(tally, before),
         BAD_BUFFER => bad_buffer(tally, before),
         BUSY => busy(tally, before),
-        NOT_MODELLED => not_modelled(tally, &before.machine.state),
+        NOT_MODELLED if op == 8 => not_modelled(tally, &before.machine.state),
         NO_SUCH_PLACE => no_such_place(tally, before),
         SOURCE_NOT_LENT => not_lent(tally, before),
         TAPE_FULL => tape_full(tally, before),
         BAD_RECORD => bad_record(tally, before),
-        NOTHING_THERE => {
+        NOTHING_THERE if op == 10 => {
             let (steps, count) = (before.command.c, before.machine.count);
             let one_more = count.checked_add(1) == Some(steps);
             tally.meet_if(one_more, "nothing there: one more than the count");
@@ -145,6 +165,9 @@ fn bad_state(tally: &mut Tally, before: &Before) {
         (kind == COPY && state.source >> 16 != 0, "copy source over 16 bits"),
         (!matches!(kind, TRANSFER | COPY) && state.source != 0, "source without a use"),
         (kind != FILL && state.fill != 0, "fill byte without a fill"),
+        (state.line > LAST_LINE, "line"),
+        (state.line == 262 && good_but_line(state), "line 262, else good"),
+        (state.line == 65_535 && good_but_line(state), "line 65,535, else good"),
     ];
     for (holds, name) in facts {
         tally.meet_if(holds, &format!("bad state: {name}"));
@@ -157,6 +180,10 @@ fn bad_state(tally: &mut Tally, before: &Before) {
 fn one_unit_over(state: &State) -> bool {
     let mended = State { remaining: UNITS_MOST, ..state.clone() };
     state.remaining == UNITS_MOST + 1 && mended.good()
+}
+
+fn good_but_line(state: &State) -> bool {
+    State { line: 0, ..state.clone() }.good()
 }
 
 /// Are VRAM and the count as they should be, if the call uses them?
@@ -172,7 +199,7 @@ fn uses_tape(before: &Before) -> bool {
     before.taped() || before.command.op == 10
 }
 
-fn count_over(machine: &Machine) -> bool {
+pub fn count_over(machine: &Machine) -> bool {
     machine.count as usize > machine.tape.length / RECORD_BYTES
 }
 
@@ -214,7 +241,7 @@ fn busy(tally: &mut Tally, before: &Before) {
     tally.meet_if(before.taped() && free(&before.machine) == 0, "3 before 6");
 }
 
-fn free(machine: &Machine) -> usize {
+pub fn free(machine: &Machine) -> usize {
     (machine.tape.length / RECORD_BYTES).saturating_sub(machine.count as usize)
 }
 
@@ -268,6 +295,7 @@ fn bad_record(tally: &mut Tally, before: &Before) {
             tally.meet_if(number > 1, "bad record: a deeper one");
             let over = record_one_unit_over(record);
             tally.meet_if(over, "bad record: one unit above the most, else good");
+            bad_timing(tally, &record);
             bad_part(tally, record);
             return;
         }
@@ -281,9 +309,29 @@ fn record_one_unit_over(record: Record) -> bool {
     remaining_of(&record) == UNITS_MOST + 1 && good_record(&mended)
 }
 
+/// What version 2 of the records is for: a record that is good but for one of these.
+fn bad_timing(tally: &mut Tally, record: &Record) {
+    let but = |at: usize, bytes: &[u8]| {
+        let mut mended = *record;
+        mended[at..at + bytes.len()].copy_from_slice(bytes);
+        good_record(&mended)
+    };
+    let old = record[0] == 1 && but(0, &[VERSION]);
+    tally.meet_if(old, "bad record: version 1, else good");
+    let untimed = record[21..].iter().all(|byte| *byte == 0);
+    tally.meet_if(old && untimed, "bad record: version 1 as it was, without timing");
+    let line = line_of(record) == 262 && but(21, &[0, 0]);
+    tally.meet_if(line, "bad record: line 262, else good");
+    let waits = record[24] == 4 && but(24, &[0]);
+    tally.meet_if(waits, "bad record: 4 for vertical and horizontal, else good");
+    for (at, byte) in record.iter().enumerate().skip(25) {
+        tally.meet_if(*byte != 0 && but(at, &[0]), &not_zero(at));
+    }
+}
+
 /// A part is to blame if some other value of it makes the record good.
 fn bad_part(tally: &mut Tally, record: Record) {
-    for (part, from, to) in PARTS.iter().take(13) {
+    for (part, from, to) in parts() {
         let blamed = (0..=255u8).any(|value| {
             let mut mended = record;
             mended[*from..*to].fill(0);

@@ -4,7 +4,7 @@ use super::{names, Before, Tally};
 use crate::dma::{self, Memories};
 use crate::replay::Machine;
 use crate::state::{State, Vram, FILL, FILL_WAITING, TRANSFER, UNITS_MOST};
-use crate::tape::{remaining_of, RECORD_BYTES};
+use crate::tape::{remaining_of, RECORD_BYTES, VERSION};
 
 const RULES: &[&str] = &[
     "run of no units, idle",
@@ -129,7 +129,8 @@ fn count_longest(tally: &mut Tally, before: &Before, units: u32) {
 
 /// A call that is given a state is done with the most units that can remain.
 pub fn count_most_remaining(tally: &mut Tally, before: &Before) {
-    let most = before.command.op <= 10 && before.machine.state.remaining == UNITS_MOST;
+    let given = !matches!(before.command.op, 11 | 12);
+    let most = given && before.machine.state.remaining == UNITS_MOST;
     tally.meet_if(most, "call done with the most units remaining");
 }
 
@@ -206,7 +207,7 @@ pub fn count_back(tally: &mut Tally, before: &Before, after: &Machine) {
         tally.meet("step back of 0");
         let at = RECORD_BYTES * (count as usize).saturating_sub(1);
         let top = before.machine.tape.bytes.get(at).copied();
-        tally.meet_if(count > 0 && top != Some(1), "step back of 0 over a bad record");
+        tally.meet_if(count > 0 && top != Some(VERSION), "step back of 0 over a bad record");
         return;
     }
     tally.meet_if(steps == count, "step back of all");

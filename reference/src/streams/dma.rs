@@ -197,12 +197,13 @@ pub fn runs(maker: &mut Maker) {
 
 /// Calls that a run under way refuses or bears, and changes of what is lent.
 fn between(maker: &mut Maker) {
-    match maker.below(7) {
+    match maker.below(8) {
         0 | 1 => maker.status(),
         2 => maker.access(),
         3 => maker.control(0x8F01),
         4 => maker.frame(),
-        5 => {
+        5 => maker.begins(),
+        6 => {
             let source = maker.machine.state.source;
             let near = 2 * maker.below(4);
             maker.length(CARTRIDGE, (source & 0x1_FFFE) + near);

@@ -1,6 +1,6 @@
 //! Streams of everything together: plain and recorded calls, drawing, refusals.
 
-use super::{dma, drawing, ports, refusals, tape, Maker};
+use super::{dma, drawing, ports, refusals, tape, timing, Maker};
 use crate::replay::{CARTRIDGE, TAPE, WORK_RAM};
 
 pub fn fill(maker: &mut Maker) {
@@ -15,7 +15,7 @@ pub fn fill(maker: &mut Maker) {
 }
 
 fn episode(maker: &mut Maker) {
-    match maker.below(26) {
+    match maker.below(29) {
         0..=3 => ports::episode(maker),
         4..=6 => tape::episode(maker),
         7..=13 => drawing_episode(maker),
@@ -34,6 +34,7 @@ fn episode(maker: &mut Maker) {
         20 => one_off(maker),
         21 => ports::by_hand(maker),
         22 => brim(maker),
+        23..=25 => timing::episode(maker),
         _ => {
             let steps = maker.below(maker.machine.count.min(40) + 1);
             maker.back(steps);
@@ -88,7 +89,7 @@ fn one_off(maker: &mut Maker) {
     drawing::scene(maker);
 }
 
-/// A line and a frame on a tape with no room, and with a count above the capacity.
+/// A line, a frame and the timing on a tape with no room, and with a count above the capacity.
 fn brim(maker: &mut Maker) {
     let was = maker.machine.tape.length as u32;
     maker.recorded(true);
@@ -96,10 +97,12 @@ fn brim(maker: &mut Maker) {
     maker.length(TAPE, full);
     maker.line(10);
     maker.frame();
+    timing::call(maker);
     maker.line(300);
     let short = maker.machine.count.min(4_096) * 32;
     maker.length(TAPE, short.saturating_sub(1));
     maker.line(10);
+    timing::call(maker);
     maker.back(0);
     maker.length(TAPE, was);
 }

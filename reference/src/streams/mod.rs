@@ -7,6 +7,7 @@ mod mix;
 mod ports;
 mod refusals;
 mod tape;
+mod timing;
 
 use crate::replay::{Command, Machine};
 
@@ -16,16 +17,18 @@ pub enum Kind {
     Dma,
     Refusals,
     Tape,
+    Timing,
     Drawing,
     Mix,
 }
 
 impl Kind {
-    pub const ALL: [(Kind, &'static str); 6] = [
+    pub const ALL: [(Kind, &'static str); 7] = [
         (Kind::Ports, "ports"),
         (Kind::Dma, "dma"),
         (Kind::Refusals, "refusals"),
         (Kind::Tape, "tape"),
+        (Kind::Timing, "timing"),
         (Kind::Drawing, "drawing"),
         (Kind::Mix, "mix"),
     ];
@@ -44,6 +47,7 @@ pub fn stream(seed: u64, kind: Kind, count: usize) -> Vec<Command> {
         Kind::Dma => dma::fill(&mut maker),
         Kind::Refusals => refusals::fill(&mut maker),
         Kind::Tape => tape::fill(&mut maker),
+        Kind::Timing => timing::fill(&mut maker),
         Kind::Drawing => drawing::fill(&mut maker),
         Kind::Mix => mix::fill(&mut maker),
     }
@@ -53,6 +57,7 @@ pub fn stream(seed: u64, kind: Kind, count: usize) -> Vec<Command> {
 /// A digest is asked for after this many calls.
 const CALLS_A_DIGEST: u32 = 20;
 const DIGESTS: u8 = 48;
+const ASK_DIGESTS: Command = Command { op: DIGESTS, a: 0, b: 0, c: 0 };
 
 pub struct Maker {
     random: u64,
@@ -81,22 +86,27 @@ impl Maker {
 
     fn finish(mut self) -> Vec<Command> {
         if self.commands.len() < self.count {
-            self.commands.push(Command { op: DIGESTS, a: 0, b: 0, c: 0 });
+            self.commands.push(ASK_DIGESTS);
         }
         self.commands
     }
 
     /// Adds a command, unless the stream is full.
     pub fn emit(&mut self, op: u8, a: u8, b: u16, c: u32) {
-        self.add(Command { op, a, b, c });
-        if (1..=12).contains(&op) {
+        let command = Command { op, a, b, c };
+        self.add(command);
+        if command.calls() {
             self.calls += 1;
             // The next line would hide this one's pixels, so each line and row is looked at.
             let pixels = op == 8 || op == 11;
             if self.calls % CALLS_A_DIGEST == 0 || pixels {
-                self.add(Command { op: DIGESTS, a: 0, b: 0, c: 0 });
+                self.digests();
             }
         }
+    }
+
+    pub fn digests(&mut self) {
+        self.add(ASK_DIGESTS);
     }
 
     fn add(&mut self, command: Command) {
@@ -192,6 +202,22 @@ impl Maker {
     pub fn colour(&mut self, word: u16, register0: u8) {
         self.emit(12, register0, word, 0);
     }
+
+    pub fn begins(&mut self) {
+        self.emit(13, 0, 0, 0);
+    }
+
+    pub fn acknowledge(&mut self, level: u8) {
+        self.emit(14, level, 0, 0);
+    }
+
+    pub fn v_counter(&mut self) {
+        self.emit(15, 0, 0, 0);
+    }
+
+    pub fn level(&mut self) {
+        self.emit(16, 0, 0, 0);
+    }
 }
 
 /// Fields of the state for op 32.
@@ -208,6 +234,10 @@ pub const FILL_BYTE: u8 = 9;
 pub const OVERFLOW: u8 = 10;
 pub const COLLISION: u8 = 11;
 pub const PAL: u8 = 12;
+pub const LINE: u8 = 13;
+pub const COUNTER: u8 = 14;
+pub const VERTICAL: u8 = 15;
+pub const HORIZONTAL: u8 = 16;
 
 /// The set-up commands, by name.
 impl Maker {

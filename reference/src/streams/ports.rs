@@ -25,7 +25,7 @@ fn begin(maker: &mut Maker) {
     }
 }
 
-/// One phrase that uses port accesses and runs only.
+/// One phrase of port accesses and runs, with a new frame or a line that begins here and there.
 pub fn episode(maker: &mut Maker) {
     match maker.below(15) {
         0..=4 => words(maker),
@@ -79,7 +79,7 @@ fn half(maker: &mut Maker) {
     let first = maker.pick(&[0x0000, 0x4000, 0xC000]) | maker.word() & 0x3FFF;
     maker.settle();
     maker.control(first);
-    match maker.below(4) {
+    match maker.below(5) {
         0 => maker.status(),
         1 => maker.access(),
         2 => {
@@ -87,6 +87,7 @@ fn half(maker: &mut Maker) {
             let word = 0x8000 | maker.word() & 0x1F03;
             maker.control(word);
         }
+        3 => maker.begins(),
         _ => maker.frame(),
     }
     maker.access();
@@ -112,7 +113,7 @@ fn waiting_fill(maker: &mut Maker) {
 
 fn while_waiting(maker: &mut Maker) {
     for _ in 0..1 + maker.below(3) {
-        match maker.below(7) {
+        match maker.below(8) {
             0 => maker.read(),
             1 => maker.status(),
             2 => maker.run(5),
@@ -125,6 +126,7 @@ fn while_waiting(maker: &mut Maker) {
                 let number = 24 + maker.word() % 8;
                 maker.register(number, 0x55);
             }
+            6 => maker.begins(),
             _ => maker.frame(),
         }
     }
@@ -141,11 +143,12 @@ fn busy(maker: &mut Maker) {
     let code = if mode < 0x80 { 0x23 } else { 0x30 };
     maker.point(code, address);
     for _ in 0..2 {
-        match maker.below(5) {
+        match maker.below(6) {
             0 => maker.status(),
             1 => maker.control(0x8F02),
             2 => maker.control_byte(0x40),
             3 => maker.frame(),
+            4 => maker.begins(),
             _ => maker.access(),
         }
     }

@@ -1,7 +1,8 @@
 //! Streams of plain calls on states and buffers at the edge of GOOD, and just past it.
 
 use super::{
-    Maker, ADDRESS, CODE, COLOUR, DMA_KIND, FILL_BYTE, PENDING, REGISTER, REMAINING, SCROLL, SOURCE,
+    timing, Maker, ADDRESS, CODE, COLOUR, DMA_KIND, FILL_BYTE, LINE, PENDING, REGISTER, REMAINING,
+    SCROLL, SOURCE,
 };
 use crate::replay::{CARTRIDGE, VRAM, WORK_RAM};
 use crate::state::{COPY, FILL, TRANSFER, UNITS_MOST};
@@ -79,12 +80,15 @@ pub fn base(maker: &mut Maker) {
     if maker.once_in(3) {
         maker.raise_flags();
     }
+    if maker.once_in(2) {
+        timing::jump(maker);
+    }
 }
 
 /// One thing wrong, or in a few cases just at the edge of right.
 pub fn fault(maker: &mut Maker) {
     let place = maker.word();
-    match maker.below(13) {
+    match maker.below(14) {
         0 => {
             let bit = maker.pick(&[0, 4, 8, 12, 13, 14, 15]);
             maker.field(COLOUR, place, 1 << bit);
@@ -109,6 +113,10 @@ pub fn fault(maker: &mut Maker) {
         7 => {
             let byte = maker.pick(&[1, 255]);
             maker.field(FILL_BYTE, 0, byte);
+        }
+        8 => {
+            let line = maker.pick(&[262, 262, 512, 65_535]);
+            maker.field(LINE, 0, line);
         }
         _ => bad_length(maker),
     }
@@ -145,7 +153,7 @@ fn bad_length(maker: &mut Maker) {
 /// One plain call of those that need neither tape nor drawing.
 pub fn call(maker: &mut Maker) {
     let (word, byte) = (maker.word(), maker.byte());
-    match maker.below(12) {
+    match maker.below(15) {
         0 => maker.control(word),
         1 => maker.control_byte(byte),
         2 => maker.write(word),
@@ -157,6 +165,7 @@ pub fn call(maker: &mut Maker) {
             maker.run(budget);
         }
         10 => maker.frame(),
+        11..=13 => timing::call(maker),
         _ => maker.colour(word, byte),
     }
 }

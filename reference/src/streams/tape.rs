@@ -1,12 +1,12 @@
 //! Streams of recorded calls and step backs: inside runs, to the start, past the start,
 //! on full and short tapes, over spoilt records.
 
-use super::{dma, ports, refusals, Maker, COLLISION, OVERFLOW, PAL, PENDING};
+use super::{dma, ports, refusals, timing, Maker, COLLISION, OVERFLOW, PAL, PENDING};
 use crate::replay::{CARTRIDGE, TAPE, VRAM, WORK_RAM};
 use crate::state::UNITS_MOST;
 use crate::tape::RECORD_BYTES;
 
-const WHOLE_TAPE: u32 = 131_072;
+pub const WHOLE_TAPE: u32 = 131_072;
 
 pub fn fill(maker: &mut Maker) {
     maker.recorded(true);
@@ -14,6 +14,7 @@ pub fn fill(maker: &mut Maker) {
         let value = maker.below(2);
         maker.field(field, 0, value);
     }
+    timing::jump(maker);
     maker.scatter(VRAM);
     maker.scatter(WORK_RAM);
     maker.scatter(CARTRIDGE);
@@ -27,7 +28,7 @@ pub fn fill(maker: &mut Maker) {
 
 /// One phrase of recorded calls.
 pub fn episode(maker: &mut Maker) {
-    match maker.below(34) {
+    match maker.below(37) {
         0..=8 => ports::episode(maker),
         9..=11 => dma::transfer(maker),
         12..=14 => dma::fill_dma(maker),
@@ -49,6 +50,7 @@ pub fn episode(maker: &mut Maker) {
         }
         31 => first_of_the_longest(maker),
         32 => flagged_reads(maker),
+        33..=35 => timing::there_and_back(maker),
         _ => maker.back(maker.machine.count),
     }
     if maker.once_in(3) {
@@ -60,7 +62,7 @@ pub fn episode(maker: &mut Maker) {
 }
 
 /// A step back of none, one, some, all, or more than there are.
-fn back(maker: &mut Maker) {
+pub fn back(maker: &mut Maker) {
     let count = maker.machine.count;
     let some = maker.below(count.min(30) + 1);
     let any = maker.below(count.saturating_add(1));
@@ -69,12 +71,12 @@ fn back(maker: &mut Maker) {
     maker.back(steps);
 }
 
-fn capacity(maker: &Maker) -> u32 {
+pub fn capacity(maker: &Maker) -> u32 {
     (maker.machine.tape.length / RECORD_BYTES) as u32
 }
 
 /// Back to the start, by hand if a record is bad.
-fn rewind(maker: &mut Maker) {
+pub fn rewind(maker: &mut Maker) {
     maker.back(maker.machine.count);
     if maker.machine.count != 0 {
         maker.count(0);
@@ -121,7 +123,7 @@ fn unlent_and_full(maker: &mut Maker) {
 fn short_calls(maker: &mut Maker) {
     for _ in 0..4 {
         let room = capacity(maker).saturating_sub(maker.machine.count);
-        match maker.below(9) {
+        match maker.below(11) {
             0 => maker.run(room),
             1 => maker.run(room + 1),
             2 => maker.run(0),
@@ -129,6 +131,7 @@ fn short_calls(maker: &mut Maker) {
             4 => maker.status(),
             5 => maker.control(0x8F02),
             6 => maker.control_byte(0x8F),
+            7 | 8 => timing::call(maker),
             _ => maker.access(),
         }
     }
@@ -145,9 +148,10 @@ fn some_records(maker: &mut Maker) -> Option<u32> {
 }
 
 /// Bytes of a record with values at the edge of their range or just past it.
-const BLOTS: [(u32, u8); 32] = [
+const BLOTS: [(u32, u8); 39] = [
     (0, 0),
-    (0, 2),
+    (0, 1),
+    (0, 3),
     (1, 1),
     (2, 31),
     (2, 33),
@@ -177,6 +181,12 @@ const BLOTS: [(u32, u8); 32] = [
     (20, 3),
     (20, 4),
     (21, 1),
+    (21, 2),
+    (22, 255),
+    (23, 255),
+    (24, 3),
+    (24, 4),
+    (25, 1),
     (31, 1),
 ];
 

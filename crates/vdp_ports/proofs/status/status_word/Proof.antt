@@ -6,7 +6,18 @@ use Rattle.vdp_ports.proofs.status.status_word.Tie as tie
 
 returns : tie.Need-returns
 unfolding statusWord
-returns c = simp (c .flag4 .ensures, c .before .flag3 .ensures, c .before .before .flag2 .ensures, c .before .before .before .flag .ensures, c .before .before .before .before .filling .ensures)
+returns c =
+    let f = c .before .before .before in
+    simp (
+      c .flag6 .ensures,
+      c .before .flag5 .ensures,
+      c .before .before .flag4 .ensures,
+      f .flag3 .ensures,
+      f .before .flag2 .ensures,
+      f .before .before .flag .ensures,
+      f .before .before .before .blanking .ensures,
+      f .before .before .before .before .filling .ensures,
+    )
 
 pub status-word-spec : {M : Type 1} → statement M
 status-word-spec =
@@ -14,12 +25,19 @@ status-word-spec =
     (tie.spec
     (λ c κs. search needs)
     (λ c κs. search needs)
+    (λ c κs. search needs)
+    (λ c. search needs)
+    (λ c κs. search needs)
+    (λ c. search needs)
+    (λ c κs. search needs)
     (λ c. search needs)
     (λ c κs. search needs)
     (λ c. search needs)
     (λ c κs. search needs)
     (λ c. search needs)
     (λ c κs. search needs)
+    (λ c. search needs)
+    (λ c. search needs)
     (λ c. search needs)
     (λ c. search needs)
     (λ c. search needs)

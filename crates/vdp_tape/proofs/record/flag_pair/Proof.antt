@@ -1,6 +1,6 @@
 -- By the two flags.
-use Rattle.vdp_tape.proofs.record.flag_byte.Statement.{statement}
-use Rattle.vdp_tape.proofs.record.flag_byte.Tie as tie
+use Rattle.vdp_tape.proofs.record.flag_pair.Statement.{statement}
+use Rattle.vdp_tape.proofs.record.flag_pair.Tie as tie
 
 returns : tie.Need-returns
 returns c = simp (c .before .if1 .taken, c .if2 .taken)
@@ -14,5 +14,5 @@ returns-3 c = simp (c .before .if1 .left, c .if3 .taken)
 returns-4 : tie.Need-returns-4
 returns-4 c = simp (c .before .if1 .left, c .if3 .left)
 
-pub flag-byte-spec : {M : Type 1} → statement M
-flag-byte-spec = tie.close (tie.spec returns returns-2 returns-3 returns-4)
+pub flag-pair-spec : {M : Type 1} → statement M
+flag-pair-spec = tie.close (tie.spec returns returns-2 returns-3 returns-4)

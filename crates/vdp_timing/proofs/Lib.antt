@@ -1,0 +1,4 @@
+pub mod Bench
+pub mod Decided
+pub mod Frame
+pub mod Table

@@ -1,0 +1,61 @@
+-- The cases of frame timing of definition, Worked cases, that are proved, as one table.
+use Prim.Native.Nat.{ℕ}
+use mathlib.Core.Bool.{true, false}
+use mathlib.Core.List.{List, [], _∷_, map}
+use lib.ListN.{set}
+use Rattle.vdp_state.specs.declared.state.State.{State}
+use Rattle.vdp_state.specs.Fresh.{fresh}
+use Rattle.vdp_state.specs.State.{withControl, withRegisters, withTiming}
+use Rattle.vdp_state.specs.Worked.{Case, gives}
+use Rattle.vdp_ports.specs.Status.{statusRead}
+use Rattle.vdp_timing.specs.Interrupt.{levelOffered, acknowledge}
+use Rattle.vdp_timing.specs.LineBegins.{lineBegins}
+use Rattle.vdp_timing.specs.VCounter.{vCounter}
+
+abbrev pub start : State
+start = fresh false
+
+-- the start with registers 0, 1 and 10
+abbrev pub asked : ℕ → ℕ → ℕ → State
+asked register0 register1 register10 = withRegisters start (set (set (set (start .registers) 0 register0) 1 register1) 10 register10)
+
+-- a state on a line, with this counter
+abbrev pub onLine : ℕ → ℕ → State → State
+onLine line counter s = withControl s (withTiming (s .control) (record { line = line; counter = counter; vertical = false; horizontal = false }))
+
+abbrev pub counterOn : ℕ → ℕ
+counterOn line = vCounter (onLine line 0 start) .result
+
+abbrev pub statusOn : ℕ → ℕ
+statusOn line = statusRead (onLine line 0 start) .result
+
+-- line 224 begun, with a counter that expires there or not
+abbrev pub at224 : ℕ → State → State
+at224 counter s = lineBegins (onLine 223 counter s) .state
+
+abbrev pub levelOf : State → ℕ
+levelOf s = levelOffered s .result
+
+unfoldable pub table : List Case
+table =
+    -- the V counter on lines 0, 234, 235 and 261
+    gives (map counterOn (0 ∷ 234 ∷ 235 ∷ 261 ∷ [])) (0 ∷ 0xea ∷ 0xe5 ∷ 0xff ∷ [])
+    -- status on lines 223, 224, 260 and 261
+    ∷ gives (map statusOn (223 ∷ 224 ∷ 260 ∷ 261 ∷ [])) (0x3600 ∷ 0x3608 ∷ 0x3608 ∷ 0x3600 ∷ [])
+    -- line 224, register 1 bit 5 set: level 6, status 3688h; once acknowledged, none and 3608h
+    ∷ gives (levelOf (at224 5 (asked 0 0x20 0)) ∷ statusRead (at224 5 (asked 0 0x20 0)) .result ∷ []) (6 ∷ 0x3688 ∷ [])
+    ∷ gives
+    (levelOf (acknowledge (at224 5 (asked 0 0x20 0)) 6 .state)
+    ∷ statusRead (acknowledge (at224 5 (asked 0 0x20 0)) 6 .state) .result
+    ∷ []) (0 ∷ 0x3608 ∷ [])
+    -- line 224, register 1 bit 5 clear: no level, status 3688h
+    ∷ gives (levelOf (at224 5 start) ∷ statusRead (at224 5 start) .result ∷ []) (0 ∷ 0x3688 ∷ [])
+    -- both on line 224: level 4, then 6; an acknowledge of 6 answers 10 before
+    ∷ gives
+    (levelOf (at224 0 (asked 0x10 0x20 0))
+    ∷ acknowledge (at224 0 (asked 0x10 0x20 0)) 6 .number
+    ∷ levelOf (acknowledge (at224 0 (asked 0x10 0x20 0)) 4 .state)
+    ∷ []) (4 ∷ 10 ∷ 6 ∷ [])
+    -- the line after 261, and PAL there
+    ∷ gives (lineBegins start .state .control .timing .line ∷ lineBegins (fresh true) .number ∷ []) (0 ∷ 4 ∷ [])
+    ∷ []
