@@ -135,13 +135,10 @@ pub fn record_of(t: Step) -> [u8; 32]
 {
     let store = t.store;
     let c = kept_of(store);
-    let p = t.control.port;
-    let d = t.control.dma;
-    let pending = flag_bit(p.pending);
-    let f = t.control.flags;
-    let flags = flag_pair(f.overflow, f.collision);
-    let timing = t.control.timing;
-    let interrupts = flag_pair(timing.vertical, timing.horizontal);
+    let k = t.control;
+    let pending = flag_bit(k.port.pending);
+    let flags = flag_pair(k.flags.overflow, k.flags.collision);
+    let interrupts = flag_pair(k.timing.vertical, k.timing.horizontal);
     [
         VERSION,
         0,
@@ -151,22 +148,22 @@ pub fn record_of(t: Step) -> [u8; 32]
         (c.place % 256) as u8,
         (c.content / 256 % 256) as u8,
         (c.content % 256) as u8,
-        (p.address / 256 % 256) as u8,
-        (p.address % 256) as u8,
-        p.code,
+        (k.port.address / 256 % 256) as u8,
+        (k.port.address % 256) as u8,
+        k.port.code,
         pending,
-        d.kind,
-        (d.remaining / 256 / 256 % 256) as u8,
-        (d.remaining / 256 % 256) as u8,
-        (d.remaining % 256) as u8,
-        (d.source / 256 / 256 % 256) as u8,
-        (d.source / 256 % 256) as u8,
-        (d.source % 256) as u8,
-        d.fill,
+        k.dma.kind,
+        (k.dma.remaining / 256 / 256 % 256) as u8,
+        (k.dma.remaining / 256 % 256) as u8,
+        (k.dma.remaining % 256) as u8,
+        (k.dma.source / 256 / 256 % 256) as u8,
+        (k.dma.source / 256 % 256) as u8,
+        (k.dma.source % 256) as u8,
+        k.dma.fill,
         flags,
-        (timing.line / 256 % 256) as u8,
-        (timing.line % 256) as u8,
-        timing.counter,
+        (k.timing.line / 256 % 256) as u8,
+        (k.timing.line % 256) as u8,
+        k.timing.counter,
         interrupts,
         0,
         0,

@@ -20,13 +20,16 @@ nextLine line = (line + 1) % 262
 abbrev pub loaded : ℕ → ℕ → ℕ → ℕ
 loaded line reload counter = cond (eqb line 0 || leb 225 line) reload counter
 
--- "On lines 0 to 224 a counter of 0 expires"
+-- the lines on which the counter counts: "On lines 0 to 224 a counter of 0 expires"
+abbrev pub counts : ℕ → Bool
+counts line = leb line 224
+
 abbrev pub expires : ℕ → ℕ → Bool
-expires line counter = leb line 224 && eqb counter 0
+expires line counter = counts line && eqb counter 0
 
 -- "it is loaded from register 10 [..] A counter that is not 0 becomes one less.", on these lines
 abbrev pub counted : ℕ → ℕ → ℕ → ℕ
-counted line reload counter = cond (leb line 224) (cond (eqb counter 0) reload (counter - 1)) counter
+counted line reload counter = cond (counts line) (cond (eqb counter 0) reload (counter - 1)) counter
 
 -- "if register 0 bit 4 is set, horizontal is set", where the counter expires; "On line 224 vertical is set"
 abbrev pub timingBegun : State → Timing

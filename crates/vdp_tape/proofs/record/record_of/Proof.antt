@@ -9,14 +9,13 @@ use Rattle.vdp_tape.proofs.record.record_of.Tie as tie
 returns : tie.Need-returns
 returns c =
     let f = c .before .before .before .before .before .before .before .before .before .before .before .before .before .before in
-    let g = f .before .before in
-    let start = g .before .before .before .before .before .before in
+    let start = f .before .before .before .before .before in
     let t = start .args .t in
     let k = t .control in
     simp (
-      g .before .before .before .before .before .kept-of .ensures,
-      g .before .before .flag-bit .ensures,
-      g .flag-pair .ensures,
+      f .before .before .before .before .kept-of .ensures,
+      f .before .before .flag-bit .ensures,
+      f .before .flag-pair .ensures,
       f .flag-pair2 .ensures,
       one-byte (keptOf (t .store) .kind) (kind-fits (t .store)),
       one-byte (k .port .code) (omega (arith, start .good)),
