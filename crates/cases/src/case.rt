@@ -12,6 +12,9 @@ pub(crate) struct Case {
     // where the case's name begins and ends in the text
     pub name: usize,
     pub name_end: usize,
+    // where the group of items begins that is repeated, and how often it is still to be done
+    pub group: usize,
+    pub times: u32,
     // the last call's number and result
     pub number: u32,
     pub result: u32,
@@ -26,6 +29,8 @@ pub(crate) fn beginning() -> Case {
         at: 0,
         name: 0,
         name_end: 0,
+        group: 0,
+        times: 0,
         number: 0,
         result: 0,
         state_marked: 0,
@@ -47,6 +52,24 @@ pub(crate) fn named(c: Case, name: usize, name_end: usize) -> Case {
 pub(crate) fn moved(c: Case, at: usize) -> Case {
     let mut next = c;
     next.at = at;
+    next
+}
+
+// A group of items begins at a place, to be done so often.
+pub(crate) fn group_begun(c: Case, at: usize, times: u32) -> Case {
+    let mut next = moved(c, at);
+    next.group = at;
+    next.times = times;
+    next
+}
+
+// A group of items has been done once more; where the text goes on after the last time.
+pub(crate) fn group_done(c: Case, at: usize) -> Case {
+    if c.times <= 1 {
+        return moved(c, at);
+    }
+    let mut next = moved(c, c.group);
+    next.times = c.times - 1;
     next
 }
 

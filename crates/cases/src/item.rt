@@ -1,6 +1,8 @@
-// The items of the text: a case's name, a command, a value to show, a mark, a comment.
+// The items of the text: a case's name, a command, a value to show, a group, a mark, a comment.
 use crate::case::Case;
 use crate::case::answered;
+use crate::case::group_begun;
+use crate::case::group_done;
 use crate::case::marked;
 use crate::case::moved;
 use crate::case::named;
@@ -38,6 +40,12 @@ fn show(c: Case, text: &[u8], vram: &[u8]) -> Case {
     write_name(text, onward(index.end), end);
     write_value(value(c, vram, which.value, index.value));
     moved(c, end)
+}
+
+// `(TIMES`: the items up to `)` are done so often.
+fn repeat(c: Case, text: &[u8]) -> Case {
+    let times = number(text, onward(c.at));
+    group_begun(c, times.end, times.value)
 }
 
 // The op of a letter: 1 to 16, and 32 to 39.
@@ -103,6 +111,8 @@ pub(crate) fn item(
             begin(c, text)
         }
         b'?' => show(c, text, vram),
+        b'(' => repeat(c, text),
+        b')' => group_done(c, onward(c.at)),
         b'*' => moved(marked(c, vram), onward(c.at)),
         b'#' => moved(c, line_end(text, c.at)),
         _ => act(c, text, vram, ram, cartridge, tape),

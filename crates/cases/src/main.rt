@@ -15,7 +15,10 @@ use stream::machine::TAPE_HELD;
 use stream::machine::VRAM_HELD;
 use stream::machine::WORK_RAM_HELD;
 
-// Does the items of a text in their order; each has a byte at least.
+// The most items that are done, those of a group each time. Past the end of the text an item does nothing.
+const ITEMS: usize = 65536;
+
+// Does the items of a text in their order.
 fn play(
     text: &[u8],
     vram: &mut [u8],
@@ -24,7 +27,7 @@ fn play(
     tape: &mut [u8],
 ) -> Case {
     let mut c = beginning();
-    let mut left = text.len();
+    let mut left = ITEMS;
     while 0 < left {
         left -= 1;
         let next = item(c, text, vram, ram, cartridge, tape);

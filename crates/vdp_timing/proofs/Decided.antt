@@ -1,10 +1,10 @@
 -- What the beginning of a line and an acknowledge decide on a good chip is a step in range.
-use Prim.Native.Nat.{ℕ, _-_, _<_}
+use Prim.Native.Nat.{ℕ, _+_, _-_, _<_, _≤_}
 use mathlib.Core.Path.{refl}
 use mathlib.Core.Bool.{_||_}
 use native.Mathlib.Omega.{arith}
-use borrow.Author.Tests.{le-leb}
-use lib.Dec.{eqb, leb}
+use borrow.Author.Tests.{le-leb, ltb-true}
+use lib.Dec.{eqb, leb, ltb}
 use Rattle.vdp_state.specs.declared.state.State.{State}
 use Rattle.vdp_state.specs.declared.state.Timing.{Timing}
 use Rattle.vdp_state.specs.Good.{lastLine}
@@ -13,15 +13,19 @@ use Rattle.vdp_state.specs.State.{Chip}
 use Rattle.vdp_state.proofs.Bools.{by-cond}
 use Rattle.vdp_state.proofs.Facts.{TimingGood, parts, control-of}
 use Rattle.vdp_timing.specs.Interrupt.{acknowledgeStep}
-use Rattle.vdp_timing.specs.LineBegins.{nextLine, loaded, counted, timingBegun, lineBeginsStep}
+use Rattle.vdp_timing.specs.LineBegins.{nextLine, loaded, counts, counted, timingBegun, lineBeginsStep}
 use Rattle.vdp_timing.specs.Timing.{timingStep}
+
+-- a line that begins is one of a frame's, whatever the one before it
+pub next-inside : (line : ℕ) → nextLine line ≤ lastLine
+next-inside line = by-cond (λ (n : ℕ). n ≤ lastLine) (ltb line lastLine) (line + 1) 0 (λ e. omega (arith, ltb-true line lastLine e)) (λ e. omega arith)
 
 loaded-byte : (line reload counter : ℕ) → reload < 256 → counter < 256 → loaded line reload counter < 256
 loaded-byte line reload counter h k = by-cond (λ (n : ℕ). n < 256) (eqb line 0 || leb 225 line) reload counter (λ e. h) (λ e. k)
 
 counted-byte : (line reload counter : ℕ) → reload < 256 → counter < 256 → counted line reload counter < 256
 counted-byte line reload counter h k =
-    by-cond (λ (n : ℕ). n < 256) (leb line 224) _ counter
+    by-cond (λ (n : ℕ). n < 256) (counts line) _ counter
     (λ e. by-cond (λ (n : ℕ). n < 256) (eqb counter 0) reload (counter - 1) (λ z. h) (λ z. omega arith)) (λ e. k)
 
 module _ (c : Chip) (g : GoodChip c) where
@@ -35,7 +39,7 @@ module _ (c : Chip) (g : GoodChip c) where
   begun-good =
       let before = g .control .counter in
       let line = nextLine (t .line) in (
-        le-leb line lastLine (omega arith),
+        le-leb line lastLine (next-inside (t .line)),
         counted-byte line _ _ (g .registers 10) (loaded-byte line _ (t .counter) (g .registers 10) before),
       )
 

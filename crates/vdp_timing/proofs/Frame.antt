@@ -5,7 +5,7 @@ use mathlib.Core.Path.{_≡_, refl, sym, ap, subst, _∙_}
 use mathlib.Core.Bool.{true, false}
 use native.Mathlib.Nat.{mod-lt, mod-eq-of-lt, mod-self, suc-mod, zero-mod}
 use native.Mathlib.Omega.{arith}
-use borrow.Author.Tests.{eq-eqb, ne-eqb, le-leb, lt-leb, eqb-true, eqb-false}
+use borrow.Author.Tests.{eq-eqb, ne-eqb, le-leb, lt-leb, lt-ltb, eqb-true, eqb-false}
 use lib.Dec.{eqb}
 use Rattle.vdp_state.specs.declared.state.State.{State}
 use Rattle.vdp_state.specs.Cell.{after}
@@ -14,6 +14,7 @@ use Rattle.vdp_state.proofs.Bools.{by-cases, both}
 use Rattle.vdp_state.proofs.Facts.{tested}
 use Rattle.vdp_state.proofs.Laws.{good-colours, good-scrolls, good-control, good-of}
 use Rattle.vdp_ports.specs.Length.{register}
+use Rattle.vdp_timing.proofs.Decided.{next-inside}
 use Rattle.vdp_timing.specs.Frame.{linesBegun, lineAfter, FrameEnds, ExpiresByRemainder}
 use Rattle.vdp_timing.specs.LineBegins.{nextLine, loaded, counted, lineBeginsStep, lineBegins}
 
@@ -86,7 +87,7 @@ begun-good : (s : State) → good s ≡ true → good (after s (lineBeginsStep s
 begun-good s g =
     let t = tested (s .control) (good-control s g) in
     good-of _ (good-colours s g) (good-scrolls s g)
-    (both (both (le-leb (s .control .port .code) 63 (t .code)) (t .dma)) (le-leb (lineAfter s) lastLine (omega arith)))
+    (both (both (le-leb (s .control .port .code) 63 (t .code)) (t .dma)) (le-leb (lineAfter s) lastLine (next-inside (s .control .timing .line))))
 
 next-line : (n k : ℕ) (s : State) → k + 1 ≤ 224 → Before n k s → Before n (k + 1) (lineBegins s .state)
 next-line n k s h b =
@@ -95,7 +96,7 @@ next-line n k s h b =
       is-good = begun-good s (b .is-good);
       ntsc = b .ntsc;
       reload = b .reload;
-      next = ap nextLine (b .next) ∙ (let e : (k + 1) % 262 ≡ k + 1 = omega arith in e);
+      next = ap nextLine (b .next) ∙ simp (lt-ltb k lastLine (omega arith));
       finds =
           let kept : (c : ℕ) → loaded (k + 1) n c ≡ c = λ c. simp (ne-eqb (k + 1) 0 (λ z. let bad : ⊥ = omega arith in bad), lt-leb 225 (k + 1) (omega arith)) in
           kept _ ∙ simp (b .reload, b .next, b .finds) (counts-on k n (omega arith));

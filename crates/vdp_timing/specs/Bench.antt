@@ -29,12 +29,19 @@ counterOn line = vCounter (onLine line 0 start) .result
 abbrev pub statusOn : ℕ → ℕ
 statusOn line = statusRead (onLine line 0 start) .result
 
+-- the next line begun, from a line with this counter
+abbrev pub begunFrom : ℕ → ℕ → State → State
+begunFrom line counter s = lineBegins (onLine line counter s) .state
+
 -- line 224 begun, with a counter that expires there or not
 abbrev pub at224 : ℕ → State → State
-at224 counter s = lineBegins (onLine 223 counter s) .state
+at224 = begunFrom 223
 
 abbrev pub levelOf : State → ℕ
 levelOf s = levelOffered s .result
+
+abbrev pub counterAndLevel : State → List ℕ
+counterAndLevel s = s .control .timing .counter ∷ levelOf s ∷ []
 
 unfoldable pub table : List Case
 table =
@@ -56,6 +63,16 @@ table =
     ∷ acknowledge (at224 0 (asked 0x10 0x20 0)) 6 .number
     ∷ levelOf (acknowledge (at224 0 (asked 0x10 0x20 0)) 4 .state)
     ∷ []) (4 ∷ 10 ∷ 6 ∷ [])
+    -- register 10 = 9 and register 0 bit 4 set: on line 224 the counter counts; on line 225 and on line 0 it is loaded
+    ∷ gives (counterAndLevel (at224 5 (asked 0x10 0 9))) (4 ∷ 0 ∷ [])
+    ∷ gives (counterAndLevel (at224 0 (asked 0x10 0 9))) (9 ∷ 4 ∷ [])
+    ∷ gives (counterAndLevel (begunFrom 224 5 (asked 0x10 0 9))) (9 ∷ 0 ∷ [])
+    ∷ gives (counterAndLevel (begunFrom 224 0 (asked 0x10 0 9))) (9 ∷ 0 ∷ [])
+    ∷ gives (counterAndLevel (begunFrom 261 0 (asked 0x10 0 9))) (8 ∷ 0 ∷ [])
+    -- register 10 = 0: the counter expires on line 0 too
+    ∷ gives (counterAndLevel (begunFrom 261 5 (asked 0x10 0 0))) (0 ∷ 4 ∷ [])
+    -- register 0 bit 4 clear: the counter expires, and no level 4 comes
+    ∷ gives (counterAndLevel (at224 0 (asked 0 0 9))) (9 ∷ 0 ∷ [])
     -- the line after 261, and PAL there
     ∷ gives (lineBegins start .state .control .timing .line ∷ lineBegins (fresh true) .number ∷ []) (0 ∷ 4 ∷ [])
     ∷ []

@@ -2,19 +2,20 @@
 use Prim.Native.Nat.{ℕ, _+_, _-_, _/_, _%_}
 use mathlib.Core.Bool.{Bool, cond, _&&_, _||_}
 use mathlib.Core.List.{List, [], _∷_}
-use lib.Dec.{eqb, leb}
+use lib.Dec.{eqb, leb, ltb}
 use Rattle.vdp_state.specs.declared.answer.Answer.{Answer}
 use Rattle.vdp_state.specs.declared.state.State.{State}
 use Rattle.vdp_state.specs.declared.state.Step.{Step}
 use Rattle.vdp_state.specs.declared.state.Timing.{Timing}
 use Rattle.vdp_state.specs.Answer.{Test, gives, first, answered}
+use Rattle.vdp_state.specs.Good.{lastLine}
 use Rattle.vdp_ports.specs.Length.{register}
 use Rattle.vdp_ports.specs.Refusal.{badState}
 use Rattle.vdp_timing.specs.Timing.{timingStep}
 
 -- "First the line becomes the next one; the line after 261 is line 0."
 abbrev pub nextLine : ℕ → ℕ
-nextLine line = (line + 1) % 262
+nextLine line = cond (ltb line lastLine) (line + 1) 0
 
 -- "On line 0 and on lines 225 to 261 the line counter is loaded from register 10."
 abbrev pub loaded : ℕ → ℕ → ℕ → ℕ

@@ -8,13 +8,11 @@ use vdp_state::answer::BAD_STATE;
 use vdp_state::answer::DONE;
 use vdp_state::answer::NOT_MODELLED;
 use vdp_state::answer::answered;
+use vdp_state::good::LAST_LINE;
 use vdp_state::good::good;
 use vdp_state::state::State;
 use vdp_state::state::Step;
 use vdp_state::state::Timing;
-
-// The lines of a frame.
-const LINES: u32 = 262;
 
 // The line that sets status bit 7, the last one on which the counter counts.
 const VERTICAL_LINE: u16 = 224;
@@ -22,7 +20,7 @@ const VERTICAL_LINE: u16 = 224;
 fn next_line(line: u16) -> u16
     ensures { λ r. ⌜ r ≡ nextLine line ⌝ }
 {
-    (((line as u32) + 1) % LINES) as u16
+    if line < LAST_LINE { line + 1 } else { 0 }
 }
 
 // The counter once it has been loaded, on the lines that load it.
