@@ -23,8 +23,8 @@ asked register0 register1 register10 = withRegisters start (set (set (set (start
 abbrev pub onLine : ℕ → ℕ → State → State
 onLine line counter s = withControl s (withTiming (s .control) (record { line = line; counter = counter; vertical = false; horizontal = false }))
 
-abbrev pub counterOn : ℕ → ℕ
-counterOn line = vCounter (onLine line 0 start) .result
+abbrev pub vCounterOn : ℕ → ℕ
+vCounterOn line = vCounter (onLine line 0 start) .result
 
 abbrev pub statusOn : ℕ → ℕ
 statusOn line = statusRead (onLine line 0 start) .result
@@ -40,39 +40,47 @@ at224 = begunFrom 223
 abbrev pub levelOf : State → ℕ
 levelOf s = levelOffered s .result
 
+abbrev pub levelAndStatus : State → List ℕ
+levelAndStatus s = levelOf s ∷ statusRead s .result ∷ []
+
 abbrev pub counterAndLevel : State → List ℕ
 counterAndLevel s = s .control .timing .counter ∷ levelOf s ∷ []
+
+-- line 224 begun with register 1 bit 5 set, and the same where a level 4 comes there too
+abbrev pub verticalWaits : State
+verticalWaits = at224 5 (asked 0 0x20 0)
+
+abbrev pub bothWait : State
+bothWait = at224 0 (asked 0x10 0x20 0)
+
+-- register 0 bit 4 set, and register 10 = 9
+abbrev pub byNine : State
+byNine = asked 0x10 0 9
 
 unfoldable pub table : List Case
 table =
     -- the V counter on lines 0, 234, 235 and 261
-    gives (map counterOn (0 ∷ 234 ∷ 235 ∷ 261 ∷ [])) (0 ∷ 0xea ∷ 0xe5 ∷ 0xff ∷ [])
+    gives (map vCounterOn (0 ∷ 234 ∷ 235 ∷ 261 ∷ [])) (0 ∷ 0xea ∷ 0xe5 ∷ 0xff ∷ [])
     -- status on lines 223, 224, 260 and 261
     ∷ gives (map statusOn (223 ∷ 224 ∷ 260 ∷ 261 ∷ [])) (0x3600 ∷ 0x3608 ∷ 0x3608 ∷ 0x3600 ∷ [])
     -- line 224, register 1 bit 5 set: level 6, status 3688h; once acknowledged, none and 3608h
-    ∷ gives (levelOf (at224 5 (asked 0 0x20 0)) ∷ statusRead (at224 5 (asked 0 0x20 0)) .result ∷ []) (6 ∷ 0x3688 ∷ [])
-    ∷ gives
-    (levelOf (acknowledge (at224 5 (asked 0 0x20 0)) 6 .state)
-    ∷ statusRead (acknowledge (at224 5 (asked 0 0x20 0)) 6 .state) .result
-    ∷ []) (0 ∷ 0x3608 ∷ [])
+    ∷ gives (levelAndStatus verticalWaits) (6 ∷ 0x3688 ∷ [])
+    ∷ gives (levelAndStatus (acknowledge verticalWaits 6 .state)) (0 ∷ 0x3608 ∷ [])
     -- line 224, register 1 bit 5 clear: no level, status 3688h
-    ∷ gives (levelOf (at224 5 start) ∷ statusRead (at224 5 start) .result ∷ []) (0 ∷ 0x3688 ∷ [])
+    ∷ gives (levelAndStatus (at224 5 start)) (0 ∷ 0x3688 ∷ [])
     -- both on line 224: level 4, then 6; an acknowledge of 6 answers 10 before
-    ∷ gives
-    (levelOf (at224 0 (asked 0x10 0x20 0))
-    ∷ acknowledge (at224 0 (asked 0x10 0x20 0)) 6 .number
-    ∷ levelOf (acknowledge (at224 0 (asked 0x10 0x20 0)) 4 .state)
-    ∷ []) (4 ∷ 10 ∷ 6 ∷ [])
-    -- register 10 = 9 and register 0 bit 4 set: on line 224 the counter counts; on line 225 and on line 0 it is loaded
-    ∷ gives (counterAndLevel (at224 5 (asked 0x10 0 9))) (4 ∷ 0 ∷ [])
-    ∷ gives (counterAndLevel (at224 0 (asked 0x10 0 9))) (9 ∷ 4 ∷ [])
-    ∷ gives (counterAndLevel (begunFrom 224 5 (asked 0x10 0 9))) (9 ∷ 0 ∷ [])
-    ∷ gives (counterAndLevel (begunFrom 224 0 (asked 0x10 0 9))) (9 ∷ 0 ∷ [])
-    ∷ gives (counterAndLevel (begunFrom 261 0 (asked 0x10 0 9))) (8 ∷ 0 ∷ [])
-    -- register 10 = 0: the counter expires on line 0 too
-    ∷ gives (counterAndLevel (begunFrom 261 5 (asked 0x10 0 0))) (0 ∷ 4 ∷ [])
+    ∷ gives (levelOf bothWait ∷ acknowledge bothWait 6 .number ∷ levelOf (acknowledge bothWait 4 .state) ∷ []) (4 ∷ 10 ∷ 6 ∷ [])
+    -- on line 224 the counter counts and is not loaded
+    ∷ gives (counterAndLevel (at224 5 byNine)) (4 ∷ 0 ∷ [])
+    ∷ gives (counterAndLevel (at224 0 byNine)) (9 ∷ 4 ∷ [])
     -- register 0 bit 4 clear: the counter expires, and no level 4 comes
     ∷ gives (counterAndLevel (at224 0 (asked 0 0 9))) (9 ∷ 0 ∷ [])
+    -- on line 225 it is loaded and does not count
+    ∷ gives (counterAndLevel (begunFrom 224 5 byNine)) (9 ∷ 0 ∷ [])
+    ∷ gives (counterAndLevel (begunFrom 224 0 byNine)) (9 ∷ 0 ∷ [])
+    -- on line 0 it is loaded and counts: by 9, and by 0
+    ∷ gives (counterAndLevel (begunFrom 261 0 byNine)) (8 ∷ 0 ∷ [])
+    ∷ gives (counterAndLevel (begunFrom 261 5 (asked 0x10 0 0))) (0 ∷ 4 ∷ [])
     -- the line after 261, and PAL there
     ∷ gives (lineBegins start .state .control .timing .line ∷ lineBegins (fresh true) .number ∷ []) (0 ∷ 4 ∷ [])
     ∷ []
