@@ -42,7 +42,7 @@ fn show(c: Case, text: &[u8], vram: &[u8]) -> Case {
     moved(c, end)
 }
 
-// `(TIMES`: the items up to `)` are done so often.
+// `(TIMES`: the items up to `)` are done so often, once at least.
 fn repeat(c: Case, text: &[u8]) -> Case {
     let times = number(text, onward(c.at));
     group_begun(c, times.end, times.value)

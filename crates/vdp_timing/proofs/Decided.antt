@@ -1,10 +1,9 @@
 -- What the beginning of a line and an acknowledge decide on a good chip is a step in range.
 use Prim.Native.Nat.{ℕ, _+_, _-_, _<_, _≤_}
 use mathlib.Core.Path.{refl}
-use mathlib.Core.Bool.{_||_}
 use native.Mathlib.Omega.{arith}
 use borrow.Author.Tests.{le-leb, ltb-true}
-use lib.Dec.{eqb, leb, ltb}
+use lib.Dec.{eqb, ltb}
 use Rattle.vdp_state.specs.declared.state.State.{State}
 use Rattle.vdp_state.specs.declared.state.Timing.{Timing}
 use Rattle.vdp_state.specs.Good.{lastLine}
@@ -13,7 +12,7 @@ use Rattle.vdp_state.specs.State.{Chip}
 use Rattle.vdp_state.proofs.Bools.{by-cond}
 use Rattle.vdp_state.proofs.Facts.{TimingGood, parts, control-of}
 use Rattle.vdp_timing.specs.Interrupt.{acknowledgeStep}
-use Rattle.vdp_timing.specs.LineBegins.{nextLine, loaded, counts, counted, timingBegun, lineBeginsStep}
+use Rattle.vdp_timing.specs.LineBegins.{nextLine, loads, loaded, counts, counted, timingBegun, lineBeginsStep}
 use Rattle.vdp_timing.specs.Timing.{timingStep}
 
 -- a line that begins is one of a frame's, whatever the one before it
@@ -21,7 +20,7 @@ pub next-inside : (line : ℕ) → nextLine line ≤ lastLine
 next-inside line = by-cond (λ (n : ℕ). n ≤ lastLine) (ltb line lastLine) (line + 1) 0 (λ e. omega (arith, ltb-true line lastLine e)) (λ e. omega arith)
 
 loaded-byte : (line reload counter : ℕ) → reload < 256 → counter < 256 → loaded line reload counter < 256
-loaded-byte line reload counter h k = by-cond (λ (n : ℕ). n < 256) (eqb line 0 || leb 225 line) reload counter (λ e. h) (λ e. k)
+loaded-byte line reload counter h k = by-cond (λ (n : ℕ). n < 256) (loads line) reload counter (λ e. h) (λ e. k)
 
 counted-byte : (line reload counter : ℕ) → reload < 256 → counter < 256 → counted line reload counter < 256
 counted-byte line reload counter h k =

@@ -7,6 +7,7 @@ use Rattle.vdp_state.specs.declared.state.State.{State}
 use Rattle.vdp_state.specs.Fresh.{fresh}
 use Rattle.vdp_state.specs.State.{withControl, withRegisters, withTiming}
 use Rattle.vdp_state.specs.Worked.{Case, gives}
+use Rattle.vdp_ports.specs.Frame.{newFrame}
 use Rattle.vdp_ports.specs.Status.{statusRead}
 use Rattle.vdp_timing.specs.Interrupt.{levelOffered, acknowledge}
 use Rattle.vdp_timing.specs.LineBegins.{lineBegins}
@@ -70,6 +71,11 @@ table =
     ∷ gives (levelAndStatus (at224 5 start)) (0 ∷ 0x3688 ∷ [])
     -- both on line 224: level 4, then 6; an acknowledge of 6 answers 10 before
     ∷ gives (levelOf bothWait ∷ acknowledge bothWait 6 .number ∷ levelOf (acknowledge bothWait 4 .state) ∷ []) (4 ∷ 10 ∷ 6 ∷ [])
+    -- level 0 is never offered
+    ∷ gives (acknowledge start 0 .number ∷ acknowledge bothWait 0 .number ∷ []) (10 ∷ 10 ∷ [])
+    -- what waits goes on to the next line, and a status read and a new frame leave it
+    ∷ gives (levelOf (lineBegins bothWait .state) ∷ levelOf (lineBegins verticalWaits .state) ∷ []) (4 ∷ 6 ∷ [])
+    ∷ gives (levelAndStatus (newFrame (statusRead verticalWaits .state) .state)) (6 ∷ 0x3688 ∷ [])
     -- on line 224 the counter counts and is not loaded
     ∷ gives (counterAndLevel (at224 5 byNine)) (4 ∷ 0 ∷ [])
     ∷ gives (counterAndLevel (at224 0 byNine)) (9 ∷ 4 ∷ [])

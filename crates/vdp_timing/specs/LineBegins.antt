@@ -18,8 +18,11 @@ abbrev pub nextLine : ℕ → ℕ
 nextLine line = cond (ltb line lastLine) (line + 1) 0
 
 -- "On line 0 and on lines 225 to 261 the line counter is loaded from register 10."
+abbrev pub loads : ℕ → Bool
+loads line = eqb line 0 || leb 225 line
+
 abbrev pub loaded : ℕ → ℕ → ℕ → ℕ
-loaded line reload counter = cond (eqb line 0 || leb 225 line) reload counter
+loaded line reload counter = cond (loads line) reload counter
 
 -- the lines on which the counter counts: "On lines 0 to 224 a counter of 0 expires"
 abbrev pub counts : ℕ → Bool
