@@ -11,25 +11,26 @@ _Static_assert(offsetof(kuthbareen_dma, kind) == 0, "kind");
 _Static_assert(offsetof(kuthbareen_dma, remaining) == 4, "remaining");
 _Static_assert(offsetof(kuthbareen_dma, source) == 8, "source");
 _Static_assert(offsetof(kuthbareen_dma, fill) == 12, "fill");
-_Static_assert(sizeof(kuthbareen_flags) == 2, "flags");
+_Static_assert(sizeof(kuthbareen_flags) == 3, "flags");
 _Static_assert(offsetof(kuthbareen_flags, overflow) == 0, "overflow");
 _Static_assert(offsetof(kuthbareen_flags, collision) == 1, "collision");
+_Static_assert(offsetof(kuthbareen_flags, used_up) == 2, "used_up");
 _Static_assert(sizeof(kuthbareen_timing) == 6, "timing");
 _Static_assert(offsetof(kuthbareen_timing, line) == 0, "line");
 _Static_assert(offsetof(kuthbareen_timing, counter) == 2, "counter");
 _Static_assert(offsetof(kuthbareen_timing, vertical) == 3, "vertical");
 _Static_assert(offsetof(kuthbareen_timing, horizontal) == 4, "horizontal");
-_Static_assert(sizeof(kuthbareen_control) == 28, "control");
+_Static_assert(sizeof(kuthbareen_control) == 32, "control");
 _Static_assert(offsetof(kuthbareen_control, port) == 0, "port");
 _Static_assert(offsetof(kuthbareen_control, dma) == 4, "dma");
 _Static_assert(offsetof(kuthbareen_control, flags) == 20, "flags");
-_Static_assert(offsetof(kuthbareen_control, timing) == 22, "timing");
-_Static_assert(sizeof(kuthbareen_state) == 264, "state");
+_Static_assert(offsetof(kuthbareen_control, timing) == 24, "timing");
+_Static_assert(sizeof(kuthbareen_state) == 268, "state");
 _Static_assert(offsetof(kuthbareen_state, registers) == 0, "registers");
 _Static_assert(offsetof(kuthbareen_state, cram) == 24, "cram");
 _Static_assert(offsetof(kuthbareen_state, vsram) == 152, "vsram");
 _Static_assert(offsetof(kuthbareen_state, control) == 232, "control");
-_Static_assert(offsetof(kuthbareen_state, pal) == 260, "pal");
+_Static_assert(offsetof(kuthbareen_state, pal) == 264, "pal");
 _Static_assert(sizeof(kuthbareen_answer) == 8, "answer");
 _Static_assert(offsetof(kuthbareen_answer, number) == 0, "number");
 _Static_assert(offsetof(kuthbareen_answer, result) == 4, "result");
@@ -189,22 +190,26 @@ static void port(void)
     expect("low byte", vram[0x9235], 0xC3);
 }
 
-/* The flags: a status read shows them as they were and clears them and pending, a new frame clears them alone. */
+/* The flags: a status read shows overflow and collision as they were and clears them and pending, but not used up; a
+ * new frame clears the three flags alone. */
 static void flags(void)
 {
     unsigned set;
-    for (set = 0; set < 4; set++) {
+    for (set = 0; set < 8; set++) {
+        unsigned overflow = set & 1, collision = set >> 1 & 1, used_up = set >> 2;
         kuthbareen_state fresh = kuthbareen_fresh(false), flagged = fresh, chip;
         fresh.registers[15] = flagged.registers[15] = 2;
-        flagged.control.flags.overflow = set & 1;
-        flagged.control.flags.collision = set >> 1;
+        flagged.control.flags.overflow = overflow;
+        flagged.control.flags.collision = collision;
+        fresh.control.flags.used_up = flagged.control.flags.used_up = used_up;
         flagged.control.port.pending = true;
         chip = flagged;
-        expect("flags read", kuthbareen_status_read(&chip).result, 0x3600 + (set & 1) * 0x40 + (set >> 1) * 0x20);
+        expect("flags read", kuthbareen_status_read(&chip).result, 0x3600 + overflow * 0x40 + collision * 0x20);
         expect("flags and pending cleared", same_state(&chip, &fresh), 1);
         expect("read again", kuthbareen_status_read(&chip).result, 0x3600);
         chip = flagged;
         fresh.control.port.pending = true;
+        fresh.control.flags.used_up = false;
         expect("new frame", kuthbareen_new_frame(&chip).number, 0);
         expect("flags cleared", same_state(&chip, &fresh), 1);
     }

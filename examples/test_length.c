@@ -148,7 +148,7 @@ static void recorded(chip *on, const chip *end)
     expect("units recorded", r.result, UNITS);
     expect("count", r.count, UNITS);
     expect_same("recorded", on, end);
-    expect("version", tape[0], 2);
+    expect("version", tape[0], 3);
     expect("remaining in the first record", remaining_in(0), UNITS);
     expect("remaining in the last record", remaining_in(UNITS - 1), 1);
 }

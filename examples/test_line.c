@@ -296,7 +296,76 @@ static void limits(unsigned width, unsigned most)
     }
 }
 
-/* A blanked line: the backdrop alone, no sprite visited, the flags as they were. */
+/* What an X of 0 masks. Each letter of `kept` is a sprite on line 60: o has X 0, x is off the screen with X 1, and s is
+ * at column 16 times its place. Those that show have an s in `shown`. */
+static void masking(unsigned width, bool used_up, const char *kept, const char *shown)
+{
+    unsigned i, last = (unsigned)strlen(kept) - 1;
+    kuthbareen_state chip = showing(width);
+    lay_patterns();
+    for (i = 0; i <= last; i++) {
+        int x = kept[i] == 'o' ? -128 : kept[i] == 'x' ? -127 : (int)(16 * i);
+        put_sprite(i, 60, 0, i == last ? 0 : i + 1, cell(0, 1, 0, 1), x);
+        if (shown[i] == 's')
+            paint_sprite(60, 0, cell(0, 1, 0, 1), x);
+    }
+    chip.control.flags.used_up = used_up;
+    lay_all();
+    expect(kept, draw(&chip, 60).result, last + 1);
+    expect(kept, memcmp(pixels + MARGIN, screen[60], width), 0);
+    expect("used up cleared", chip.control.flags.used_up, 0);
+}
+
+static void all_masking(unsigned width)
+{
+    masking(width, false, "os", "os");
+    masking(width, true, "os", "o_");
+    masking(width, false, "sos", "so_");
+    masking(width, false, "xos", "xo_");
+    masking(width, false, "oos", "oos");
+    masking(width, true, "oos", "o__");
+    masking(width, false, "osos", "oso_");
+    masking(width, true, "ss", "ss");
+}
+
+/* Sprites on line 60 that use so many pixels, all of them off the screen. Those masked use pixels too. */
+static void put_used(unsigned used)
+{
+    unsigned number;
+    for (number = 0; 32 * number < used; number++) {
+        unsigned cells = (used - 32 * number) / 8, next = 32 * (number + 1) < used ? number + 1 : 20;
+        put_sprite(number, 60, (cells < 4 ? cells - 1 : 3) << 2, next, cell(0, 1, 0, 1), number == 1 ? -128 : -127);
+    }
+    put_sprite(20, 70, 0, 21, cell(0, 1, 0, 1), -128);
+    put_sprite(21, 70, 0, 0, cell(0, 1, 0, 1), 0);
+}
+
+/* Draws line 70, where the first of two sprites has X 0: does it mask the other one? */
+static bool first_masks(kuthbareen_state *chip)
+{
+    expect("line 70", draw(chip, 70).number, KUTHBAREEN_DONE);
+    return pixels[MARGIN] == BACKDROP;
+}
+
+/* Used up, from so many pixels on: the next line masks by it, and not the one after that. */
+static void used_up(unsigned width)
+{
+    unsigned used;
+    for (used = width - 64; used <= width + 64; used += 8) {
+        unsigned set = used >= width;
+        kuthbareen_state chip = showing(width);
+        lay_patterns();
+        put_used(used);
+        chip.control.flags.used_up = !set;
+        draw(&chip, 60);
+        expect("used up", chip.control.flags.used_up, set);
+        expect("masks by it", first_masks(&chip), set);
+        expect("used up by the next line", chip.control.flags.used_up, 0);
+        expect("masks on the line after", first_masks(&chip), 0);
+    }
+}
+
+/* A blanked line: the backdrop alone, no sprite visited, used up cleared and the other flags as they were. */
 static void blanked(unsigned width)
 {
     unsigned line, i;
@@ -308,6 +377,7 @@ static void blanked(unsigned width)
     chip.control.flags.overflow = true;
     before = chip;
     for (line = 0; line < 224; line += 223) {
+        chip.control.flags.used_up = true;
         kuthbareen_answer answer = draw(&chip, line);
         expect("blanked", answer.number, KUTHBAREEN_DONE);
         expect("no visits", answer.result, 0);
@@ -386,6 +456,8 @@ int main(void)
         window(width);
         one_sprite(width);
         limits(width, width / 16);
+        all_masking(width);
+        used_up(width);
         blanked(width);
     }
     scroll_modes();

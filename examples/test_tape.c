@@ -325,11 +325,11 @@ static void random_calls(void)
     }
 }
 
-/* A state in which each call would be done, with both sprite flags set and three records on the tape. */
+/* A state in which each call would be done, with the three sprite flags set and three records on the tape. */
 static void begin_ready(void)
 {
     begin(false);
-    held.state.control.flags.overflow = held.state.control.flags.collision = true;
+    held.state.control.flags = (kuthbareen_flags){true, true, true};
     present.state = held.state;
     record(right(CONTROL, 0x8004));
     record(right(CONTROL, 0x8144));
@@ -443,8 +443,8 @@ static void full_tape(void)
 /* 10 and 8: more steps than records, and a record that breaks the layout, at the top or below. */
 static void no_step_back(void)
 {
-    static const uint8_t bad[][2] = {{0, 1},  {0, 3},  {1, 1},  {2, 33}, {3, 5},  {4, 1},  {10, 64},
-                                     {12, 5}, {13, 1}, {21, 2}, {24, 4}, {25, 1}, {31, 1}};
+    static const uint8_t bad[][2] = {{0, 1},  {0, 2},  {0, 4},  {1, 1},  {2, 33}, {3, 5},  {4, 1}, {10, 64},
+                                     {12, 5}, {13, 1}, {20, 8}, {21, 2}, {24, 4}, {25, 1}, {31, 1}};
     unsigned i, below_top;
     begin_ready();
     refused("10", right(BACK, count + 1), KUTHBAREEN_NOTHING_THERE);
@@ -461,26 +461,31 @@ static void no_step_back(void)
     step_back(count);
 }
 
-/* 1 if overflow is set, plus 2 if collision is. */
+/* 1 if overflow is set, plus 2 if collision is, plus 4 if used up is. */
 static unsigned flags(void)
 {
-    return held.state.control.flags.overflow + 2u * held.state.control.flags.collision;
+    kuthbareen_flags f = held.state.control.flags;
+    return f.overflow + 2u * f.collision + 4u * f.used_up;
 }
 
-/* A status read and a new frame clear the sprite flags, and a step back over one of them gives them back. */
+/* A status read clears overflow and collision, a line without sprites used up and a new frame all three; a record has
+ * them in byte 20, and a step back gives them back. */
 static void cleared_flags(void)
 {
-    static const enum op ops[] = {STATUS, FRAME};
+    static const enum op ops[] = {STATUS, LINE, FRAME};
+    static const unsigned left[] = {4, 3, 0};
     unsigned i;
     begin_ready();
-    for (i = 0; i < 2; i++) {
+    for (i = 0; i < 3; i++) {
         record(right(ops[i], 0));
+        expect("left", flags(), left[i]);
+        expect("recorded", tape[(count - 1) * KUTHBAREEN_RECORD_SIZE + 20], 7);
+        record(right(FRAME, 0));
         expect("cleared", flags(), 0);
-        record(right(STATUS, 0));
         step_back(1);
-        expect("clear at the second", flags(), 0);
+        expect("left at the second", flags(), left[i]);
         step_back(1);
-        expect("given back", flags(), 3);
+        expect("given back", flags(), 7);
     }
 }
 

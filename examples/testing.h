@@ -24,9 +24,10 @@ static int same_state(const kuthbareen_state *a, const kuthbareen_state *b)
            c->port.address == d->port.address && c->port.code == d->port.code && c->port.pending == d->port.pending &&
            c->dma.kind == d->dma.kind && c->dma.remaining == d->dma.remaining && c->dma.source == d->dma.source &&
            c->dma.fill == d->dma.fill && c->flags.overflow == d->flags.overflow &&
-           c->flags.collision == d->flags.collision && c->timing.line == d->timing.line &&
-           c->timing.counter == d->timing.counter && c->timing.vertical == d->timing.vertical &&
-           c->timing.horizontal == d->timing.horizontal && a->pal == b->pal;
+           c->flags.collision == d->flags.collision && c->flags.used_up == d->flags.used_up &&
+           c->timing.line == d->timing.line && c->timing.counter == d->timing.counter &&
+           c->timing.vertical == d->timing.vertical && c->timing.horizontal == d->timing.horizontal &&
+           a->pal == b->pal;
 }
 
 /* Tells how it went and gives the program's exit status. */

@@ -71,10 +71,11 @@ typedef struct {
     uint8_t fill;       /* the fill byte */
 } kuthbareen_dma;
 
-/* The sprite flags of the status word. */
+/* The sprite flags: two of the status word, and one for the next line, where a first sprite with X 0 masks by it. */
 typedef struct {
     bool overflow;
     bool collision;
+    bool used_up; /* the sprites of the line drawn last used up its pixels */
 } kuthbareen_flags;
 
 /* Frame timing. */
@@ -133,10 +134,10 @@ kuthbareen_answer kuthbareen_data_write_byte(kuthbareen_state *state, uint8_t *v
 /* Reads a word from the data port: the result. */
 kuthbareen_answer kuthbareen_data_read(kuthbareen_state *state, const uint8_t *vram, size_t vram_size);
 
-/* Reads the status word: the result, as it was before the read. Then clears pending and the sprite flags. */
+/* Reads the status word: the result, as it was before the read. Then clears pending, overflow and collision. */
 kuthbareen_answer kuthbareen_status_read(kuthbareen_state *state);
 
-/* Begins a new frame: clears the sprite flags. The timing is for kuthbareen_line_begins. */
+/* Begins a new frame: clears overflow, collision and used up. The timing is for kuthbareen_line_begins. */
 kuthbareen_answer kuthbareen_new_frame(kuthbareen_state *state);
 
 /* The next line of the frame begins: the line counter is loaded or counts, and may make a level 4 interrupt wait; line
@@ -159,8 +160,8 @@ kuthbareen_answer kuthbareen_run(kuthbareen_state *state, uint8_t *vram, size_t 
                                  size_t cartridge_size, const uint8_t *ram, size_t ram_size, uint32_t budget);
 
 /* Draws a line of the screen into 320 pixels: a colour index, 0 to 63, for each column of the visible width, which is
- * 320 or 256; the pixels beyond it stay. Sets the sprite flags that the line meets and clears none. The result says how
- * many sprites were visited. */
+ * 320 or 256; the pixels beyond it stay. Sets overflow or collision where the line meets them and clears neither; sets
+ * or clears used_up. The result says how many sprites were visited. */
 kuthbareen_answer kuthbareen_line(kuthbareen_state *state, const uint8_t *vram, size_t vram_size, uint32_t line,
                                   uint8_t *pixels, size_t pixels_size);
 

@@ -23,6 +23,7 @@ pub struct Dma {
 pub struct Flags {
     pub overflow: bool,
     pub collision: bool,
+    pub used_up: bool,
 }
 
 #[repr(C)]

@@ -57,6 +57,7 @@ pub fn line(state: &mut State, vram: &Memory, line: u32, pixels: &mut [u8; LINE_
     let visible = &mut pixels[..layout.width];
     if state.registers[1] & 0x40 == 0 {
         visible.fill(layout.backdrop);
+        state.control.flags.used_up = false;
         return answer(DONE, 0);
     }
     let mut sprites = [0; LINE_SIZE];
@@ -162,6 +163,8 @@ fn pattern_dot(vram: &Memory, cell: u16, name: u16, row: u16, column: u16) -> Do
 fn walk(flags: &mut Flags, vram: &Memory, layout: &Layout, line: u16, dots: &mut [Dot]) -> u32 {
     let (most, most_on_line) = if layout.wide { (80, 20) } else { (64, 16) };
     let (mut on_line, mut left, mut masked) = (0, layout.width, false);
+    let mut can_mask = flags.used_up;
+    flags.used_up = false;
     let mut number = 0;
     for visits in 1..=most {
         let entry = layout.sprites + 8 * number;
@@ -177,7 +180,7 @@ fn walk(flags: &mut Flags, vram: &Memory, layout: &Layout, line: u16, dots: &mut
             let x = word_at(vram, entry + 6) & 0x1FF;
             let columns = left.min(usize::from(8 * wide));
             left -= columns;
-            masked |= x == 0;
+            flags.used_up = left == 0;
             if !masked {
                 let sprite = Sprite {
                     cell: word_at(vram, entry + 4),
@@ -188,6 +191,8 @@ fn walk(flags: &mut Flags, vram: &Memory, layout: &Layout, line: u16, dots: &mut
                 };
                 flags.collision |= sprite.paint(vram, columns as u16, dots);
             }
+            masked |= can_mask && x == 0;
+            can_mask |= x != 0;
         }
         number = u16::from(byte_at(vram, entry + 3) & 0x7F);
         if number == 0 || u32::from(number) >= most {

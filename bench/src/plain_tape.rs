@@ -9,7 +9,7 @@ use crate::plain::{self, control_good, good};
 
 type Record = [u8; RECORD_SIZE];
 
-const VERSION: u8 = 2;
+const VERSION: u8 = 3;
 
 // A cell with its content; places of VRAM are even.
 #[derive(Clone, Copy)]
@@ -157,7 +157,8 @@ fn write_record(slot: &mut Record, control: &Control, cell: Cell) {
     slot[13..16].copy_from_slice(&dma.remaining.to_be_bytes()[1..]);
     slot[16..19].copy_from_slice(&dma.source.to_be_bytes()[1..]);
     slot[19] = dma.fill;
-    slot[20] = u8::from(flags.overflow) + 2 * u8::from(flags.collision);
+    slot[20] =
+        u8::from(flags.overflow) + 2 * u8::from(flags.collision) + 4 * u8::from(flags.used_up);
     slot[21..23].copy_from_slice(&timing.line.to_be_bytes());
     slot[23] = timing.counter;
     slot[24] = u8::from(timing.vertical) + 2 * u8::from(timing.horizontal);
@@ -188,6 +189,7 @@ fn control_of(record: &Record) -> Control {
         flags: Flags {
             overflow: record[20] & 1 != 0,
             collision: record[20] & 2 != 0,
+            used_up: record[20] & 4 != 0,
         },
         timing: Timing {
             line: word_of(record, 21),
@@ -215,7 +217,7 @@ fn good_record(record: &Record) -> bool {
     record[..3] == [VERSION, 0, 32]
         && cell_of(record).is_some()
         && record[11] <= 1
-        && record[20] <= 3
+        && record[20] <= 7
         && record[24] <= 3
         && record[25..] == [0; 7]
         && control_good(&control_of(record))

@@ -3,6 +3,20 @@
 use crate::replay::{Command, Machine};
 use crate::state::State;
 
+/// A step back over the record of a call on a fresh chip, with these bytes of it changed: its number,
+/// and the state after it.
+pub fn back_over(op: u8, changes: &[(usize, u8)]) -> (Result<u32, u8>, State) {
+    let mut bench = Bench::new();
+    bench.0.recorded = true;
+    assert_eq!(bench.call(op, 0, 0, 0), Ok(0));
+    for (at, byte) in changes {
+        bench.0.tape.bytes[*at] = *byte;
+    }
+    let reply = bench.back(1);
+    assert_eq!(bench.0.count, u32::from(reply.is_err()));
+    (reply, bench.0.state)
+}
+
 /// A machine with a call for each op, so that the cases read like the definition.
 pub struct Bench(pub Machine);
 

@@ -159,8 +159,7 @@ fn step(page: &mut Page, call: &Call) {
         Call::Acknowledge(level) => timing::acknowledge(state, *level),
         Call::Line { line, .. } => {
             let picture = draw::picture(state, vram, *line);
-            state.overflow |= picture.overflow;
-            state.collision |= picture.collision;
+            picture.leave(state);
         }
         Call::StepBack(_) => (),
     }

@@ -163,7 +163,7 @@ pub fn run(
     Ok(units)
 }
 
-/// Draws into the visible width only and sets flags without clearing any.
+/// Draws into the visible width only. The picture is made with the flags as they were before.
 pub fn draw_line(
     state: &mut State,
     vram: &[u8],
@@ -183,8 +183,7 @@ pub fn draw_line(
     for (place, index) in pixels.iter_mut().zip(&picture.pixels) {
         *place = *index;
     }
-    state.overflow |= picture.overflow;
-    state.collision |= picture.collision;
+    picture.leave(state);
     keep(&mut tape, &before, cells::NONE);
     Ok(picture.visits)
 }

@@ -2,7 +2,7 @@
 //! (definition, Drawing; notes s14, s17).
 
 use crate::planes::{self, horizontal_scroll, plane_dot, window_dot, Dot, Plane, View};
-use crate::sprites;
+use crate::sprites::{self, Walk};
 use crate::state::{State, Vram};
 
 /// What drawing a line gives.
@@ -12,6 +12,17 @@ pub struct Picture {
     pub visits: u32,
     pub overflow: bool,
     pub collision: bool,
+    pub used_up: bool,
+}
+
+impl Picture {
+    /// The flags after the line (definition, What a line leaves). It only ever sets the first two;
+    /// the third is of this line alone.
+    pub fn leave(&self, state: &mut State) {
+        state.overflow |= self.overflow;
+        state.collision |= self.collision;
+        state.used_up = self.used_up;
+    }
 }
 
 pub fn height(state: &State) -> u32 {
@@ -69,12 +80,17 @@ fn blank(view: &View) -> Picture {
         visits: 0,
         overflow: false,
         collision: false,
+        used_up: false,
     }
 }
 
 fn shown(view: &View) -> Picture {
-    let walk = sprites::walk(view);
-    let (sprite_dots, collision) = sprites::layer(view, &walk);
+    mixed(view, &sprites::walk(view))
+}
+
+/// The layers put together, with the sprites of this walk.
+pub fn mixed(view: &View, walk: &Walk) -> Picture {
+    let (sprite_dots, collision) = sprites::layer(view, walk);
     let scroll_a = horizontal_scroll(view, Plane::A);
     let scroll_b = horizontal_scroll(view, Plane::B);
     let mut pixels = Vec::with_capacity(view.width());
@@ -87,7 +103,8 @@ fn shown(view: &View) -> Picture {
         let b = plane_dot(view, Plane::B, scroll_b, x);
         pixels.push(front(*sprite, a, b).unwrap_or(backdrop(view.state)));
     }
-    Picture { pixels, visits: walk.visits, overflow: walk.overflow, collision }
+    let used_up = sprites::use_up(view, walk);
+    Picture { pixels, visits: walk.visits, overflow: walk.overflow, collision, used_up }
 }
 
 /// The frontmost solid pixel: high sprites, A, B, then low sprites, A, B.

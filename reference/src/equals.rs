@@ -104,6 +104,7 @@ fn under_way(maker: &mut Maker, kind: u8) -> State {
         fill: if kind == FILL { maker.byte() } else { 0 },
         overflow: maker.once_in(2),
         collision: maker.once_in(2),
+        used_up: maker.once_in(2),
         line: maker.word() % (LAST_LINE + 1),
         counter: maker.byte(),
         vertical: maker.once_in(2),

@@ -1,5 +1,5 @@
 //! Tests of the sprite flags: a line sets them, a status read shows and clears them, a new frame
-//! clears them (definition, Ports).
+//! clears them (definition, Ports). No status word shows used up; its tests are in masking.rs.
 
 use crate::answer::{BAD_BUFFER, BAD_STATE, BUSY, TAPE_FULL};
 use crate::bench::Bench;
@@ -17,7 +17,8 @@ const WORDS: [(u8, bool, u32, u32); 5] = [
     (COPY, false, 0x36EA, 0x368A),
 ];
 
-/// A GOOD state with both flags set, pending, and something in every field that may hold it.
+/// A GOOD state with both flags and used up set, pending, and something in every field that may
+/// hold it.
 pub fn flagged(kind: u8, pal: bool) -> State {
     let (remaining, source, fill) = match kind {
         TRANSFER | COPY => (7, 0x42, 0),
@@ -37,6 +38,7 @@ pub fn flagged(kind: u8, pal: bool) -> State {
         fill,
         overflow: true,
         collision: true,
+        used_up: true,
         line: 230,
         counter: 9,
         vertical: true,
@@ -75,12 +77,13 @@ fn a_status_read_shows_and_clears_each_flag_alone() {
 }
 
 #[test]
-fn a_new_frame_clears_both_flags_and_nothing_else() {
+fn a_new_frame_clears_both_flags_and_used_up_and_nothing_else() {
     for (kind, pal, _, clear) in WORDS {
         let before = flagged(kind, pal);
         let mut bench = on_bench(&before);
         assert_eq!(bench.frame(), Ok(0));
-        assert_eq!(*bench.state(), State { overflow: false, collision: false, ..before });
+        let after = State { overflow: false, collision: false, used_up: false, ..before };
+        assert_eq!(*bench.state(), after);
         assert_eq!(bench.status(), Ok(clear));
     }
 }
@@ -109,8 +112,8 @@ fn a_refused_status_read_clears_nothing() {
     }
 }
 
-/// A read stores to no cell; byte 11 of its record is pending, byte 20 the flags (definition, The
-/// tape).
+/// A read stores to no cell; byte 11 of its record is pending, byte 20 the flags, with 4 for used
+/// up, which no read clears (definition, The tape).
 #[test]
 fn a_step_back_over_a_status_read_gives_the_flags_back() {
     for (kind, pal, set, clear) in WORDS {
@@ -118,7 +121,7 @@ fn a_step_back_over_a_status_read_gives_the_flags_back() {
         let mut bench = on_bench(&before);
         bench.0.recorded = true;
         assert_eq!((bench.status(), bench.status()), (Ok(set), Ok(clear)));
-        for (record, pending, flags) in [(0, 1, 3), (1, 0, 0)] {
+        for (record, pending, flags) in [(0, 1, 7), (1, 0, 4)] {
             let bytes = &bench.0.tape.bytes[32 * record..];
             assert_eq!(bytes[3..8], [0; 5]);
             assert_eq!((bytes[11], bytes[20]), (pending, flags));

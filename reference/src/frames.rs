@@ -2,7 +2,7 @@
 //! the V counter, what the status word shows, and the records (definition, Frame timing).
 
 use crate::answer::{BAD_BUFFER, BAD_RECORD, BAD_STATE, NOTHING_THERE, NOT_MODELLED, TAPE_FULL};
-use crate::bench::Bench;
+use crate::bench::{back_over, Bench};
 use crate::flags::{flagged, on_bench};
 use crate::replay::{state_bytes, Command};
 use crate::state::{State, COPY, FILL, FILL_WAITING, IDLE, TRANSFER};
@@ -397,8 +397,8 @@ fn the_record_of_a_line_that_begins() {
     bench.0.recorded = true;
     bench.0.tape.bytes.fill(0x55);
     assert_eq!((bench.begins(), bench.0.count), (Ok(0), 1));
-    let head = [2, 0, 32, 0, 0, 0, 0, 0];
-    let state = [0x12, 0x34, 0x21, 1, 3, 0, 0, 7, 0, 0, 0, 0x99, 3, 0, 0xDF, 5, 2];
+    let head = [3, 0, 32, 0, 0, 0, 0, 0];
+    let state = [0x12, 0x34, 0x21, 1, 3, 0, 0, 7, 0, 0, 0, 0x99, 7, 0, 0xDF, 5, 2];
     assert_eq!(bench.0.tape.bytes[..32], [head.as_slice(), &state, &[0; 7]].concat());
     assert_eq!(bench.0.tape.bytes[32], 0x55);
     let after = State { line: 224, counter: 4, vertical: true, ..before };
@@ -415,8 +415,8 @@ fn the_records_of_two_acknowledges() {
     bench.0.recorded = true;
     assert_eq!((bench.acknowledge(4), bench.acknowledge(6)), (Ok(0), Ok(0)));
     for (record, waits) in [(0, 3), (1, 1)] {
-        let head = [2, 0, 32, 0, 0, 0, 0, 0];
-        let state = [0x12, 0x34, 0x21, 1, 4, 0, 0, 7, 0, 0, 0x42, 0, 3, 0, 0xE6, 9, waits];
+        let head = [3, 0, 32, 0, 0, 0, 0, 0];
+        let state = [0x12, 0x34, 0x21, 1, 4, 0, 0, 7, 0, 0, 0x42, 0, 7, 0, 0xE6, 9, waits];
         let bytes = &bench.0.tape.bytes[32 * record..32 * record + 32];
         assert_eq!(*bytes, [head.as_slice(), &state, &[0; 7]].concat());
     }
@@ -447,19 +447,8 @@ fn a_whole_recorded_frame_and_back() {
     }
 }
 
-/// A step back over the record of line 0, with these bytes of it changed: its number, and the state
-/// after it. The record itself goes back to line 261.
-fn back_over(changes: &[(usize, u8)]) -> (Result<u32, u8>, State) {
-    let mut bench = Bench::new();
-    bench.0.recorded = true;
-    assert_eq!(bench.begins(), Ok(0));
-    for (at, byte) in changes {
-        bench.0.tape.bytes[*at] = *byte;
-    }
-    let reply = bench.back(1);
-    assert_eq!(bench.0.count, u32::from(reply.is_err()));
-    (reply, bench.0.state)
-}
+/// Line 0 begins; its record goes back to line 261.
+const BEGINS: u8 = 13;
 
 #[test]
 fn good_timing_in_a_record() {
@@ -473,7 +462,7 @@ fn good_timing_in_a_record() {
         (&[(24, 2)], State { horizontal: true, ..fresh }),
         (&[(24, 3)], State { vertical: true, horizontal: true, ..fresh }),
     ] {
-        assert_eq!(back_over(changes), (Ok(0), expected), "{changes:?}");
+        assert_eq!(back_over(BEGINS, changes), (Ok(0), expected), "{changes:?}");
     }
 }
 
@@ -486,7 +475,7 @@ fn bad_records_of_timing_and_of_version_1() {
         [(0, 1)].as_slice(),
         &[(0, 1), (21, 0), (22, 0)],
         &[(0, 0)],
-        &[(0, 3)],
+        &[(0, 4)],
         &[(22, 6)],
         &[(21, 2), (22, 0)],
         &[(21, 0xFF), (22, 0xFF)],
@@ -497,26 +486,28 @@ fn bad_records_of_timing_and_of_version_1() {
     .to_vec();
     cases.extend((25..32).map(|at| vec![(at, 1)]));
     for changes in cases {
-        assert_eq!(back_over(&changes), (Err(BAD_RECORD), after.clone()), "{changes:?}");
+        assert_eq!(back_over(BEGINS, &changes), (Err(BAD_RECORD), after.clone()), "{changes:?}");
     }
 }
 
-/// Op 32 cuts to a word, to a byte and to a bit; the digest's bytes end with what it set.
+/// Op 32 cuts to a word, to a byte and to a bit; the digest's bytes end with what it set, used up
+/// last. There is no field 18.
 #[test]
-fn fields_13_to_16_of_the_stream_and_the_end_of_the_digest() {
+fn fields_13_to_17_of_the_stream_and_the_end_of_the_digest() {
     let mut bench = Bench::new();
-    for (a, c) in [(12, 1), (13, 0x1_2345), (14, 0x1FE), (15, 3), (16, 2), (17, 1)] {
+    for (a, c) in [(12, 1), (13, 0x1_2345), (14, 0x1FE), (15, 3), (16, 2), (17, 5), (18, 1)] {
         assert_eq!(bench.0.apply(&Command { op: 32, a, b: 0, c }), None);
     }
-    let expected = State { line: 0x2345, counter: 0xFE, vertical: true, ..State::fresh(true) };
+    let timed = State { line: 0x2345, counter: 0xFE, vertical: true, ..State::fresh(true) };
+    let expected = State { used_up: true, ..timed };
     assert_eq!(*bench.state(), expected);
     let bytes = state_bytes(bench.state());
-    assert_eq!(bytes.len(), 24 + 2 * 64 + 2 * 40 + 2 + 3 + 4 + 4 + 4 + 5);
-    assert_eq!(bytes[246..], [0, 0, 1, 0x23, 0x45, 0xFE, 1, 0]);
-    for (a, c) in [(15, 2), (16, 0x8000_0001)] {
+    assert_eq!(bytes.len(), 24 + 2 * 64 + 2 * 40 + 2 + 3 + 4 + 4 + 4 + 5 + 1);
+    assert_eq!(bytes[246..], [0, 0, 1, 0x23, 0x45, 0xFE, 1, 0, 1]);
+    for (a, c) in [(15, 2), (16, 0x8000_0001), (17, 0x8000_0000)] {
         assert_eq!(bench.0.apply(&Command { op: 32, a, b: 0, c }), None);
     }
-    assert_eq!(state_bytes(bench.state())[252..], [0, 1]);
+    assert_eq!(state_bytes(bench.state())[252..], [0, 1, 0]);
 }
 
 #[test]

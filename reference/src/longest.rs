@@ -186,9 +186,9 @@ fn copy_on_tape() -> Bench {
 fn the_first_and_the_last_of_65_536_records() {
     let tape = copy_on_tape().0.tape.bytes;
     let line_261 = [1, 5, 0, 0, 0, 0, 0, 0, 0, 0, 0];
-    let first = [2, 0, 32, 1, 0, 0, 0xA0, 0xA1, 0, 0, 0x30, 0, 4, 1, 0, 0, 0, 0, 1, 0, 0];
+    let first = [3, 0, 32, 1, 0, 0, 0xA0, 0xA1, 0, 0, 0x30, 0, 4, 1, 0, 0, 0, 0, 1, 0, 0];
     assert_eq!(tape[..32], [first.as_slice(), &line_261].concat());
-    let last = [2, 0, 32, 1, 0xFF, 0xFE, 0xAF, 0xAF, 0xFF, 0xFF, 0x30, 0, 4, 0, 0, 1];
+    let last = [3, 0, 32, 1, 0xFF, 0xFE, 0xAF, 0xAF, 0xFF, 0xFF, 0x30, 0, 4, 0, 0, 1];
     assert_eq!(tape[32 * 65_535..], [last.as_slice(), &[0; 5], &line_261].concat());
 }
 
@@ -255,7 +255,7 @@ fn a_record_with_65_536_units_is_good_and_with_65_537_is_not() {
     ] {
         let mut bench = Bench::new();
         bench.0.count = 1;
-        bench.0.tape.bytes[..3].copy_from_slice(&[2, 0, 32]);
+        bench.0.tape.bytes[..3].copy_from_slice(&[3, 0, 32]);
         bench.0.tape.bytes[12] = kind;
         bench.0.tape.bytes[13..16].copy_from_slice(&units);
         assert_eq!(bench.back(1), reply);

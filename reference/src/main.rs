@@ -25,6 +25,8 @@ mod flags;
 mod frames;
 #[cfg(test)]
 mod longest;
+#[cfg(test)]
+mod masking;
 mod pattern;
 mod planes;
 mod ports;

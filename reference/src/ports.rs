@@ -126,7 +126,7 @@ fn vram_word(vram: &Vram, address: u16) -> u16 {
 }
 
 /// Status read: the word as it was before the read, which clears pending and both sprite flags.
-/// Vertical stays until it is acknowledged.
+/// All else is left: "used up and vertical stay".
 pub fn status_read(state: &mut State) -> u16 {
     let word = status_word(state);
     state.pending = false;
@@ -146,12 +146,14 @@ fn status_word(state: &State) -> u16 {
         + bit(state.pal, 1)
 }
 
-/// A new frame begins with both sprite flags clear; a half that is awaited stays so, and so does
-/// the line.
+/// A new frame begins with both sprite flags and used up clear; a half that is awaited stays so,
+/// and so does the line.
 pub fn new_frame(state: &mut State) {
     clear_sprite_flags(state);
+    state.used_up = false;
 }
 
+/// Those that the status word shows.
 fn clear_sprite_flags(state: &mut State) {
     state.overflow = false;
     state.collision = false;

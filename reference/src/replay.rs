@@ -266,6 +266,7 @@ fn set_field(state: &mut State, command: &Command) {
         14 => state.counter = byte,
         15 => state.vertical = c % 2 == 1,
         16 => state.horizontal = c % 2 == 1,
+        17 => state.used_up = c % 2 == 1,
         _ => (),
     }
 }
@@ -297,6 +298,6 @@ pub fn state_bytes(state: &State) -> Vec<u8> {
     bytes.extend([state.overflow, state.collision, state.pal].map(u8::from));
     bytes.extend(state.line.to_be_bytes());
     bytes.push(state.counter);
-    bytes.extend([state.vertical, state.horizontal].map(u8::from));
+    bytes.extend([state.vertical, state.horizontal, state.used_up].map(u8::from));
     bytes
 }

@@ -14,7 +14,7 @@ pub struct Sprite {
     pub x: usize,
 }
 
-/// A sprite kept on the line, with the columns it was granted.
+/// A sprite kept on the line, with the columns it was granted; a masked one shows none of them.
 #[derive(Clone, Copy, Debug, PartialEq, Eq)]
 pub struct Kept {
     pub sprite: Sprite,
@@ -47,9 +47,14 @@ pub fn line_limit(view: &View) -> usize {
     }
 }
 
-pub fn entry(view: &View, number: usize) -> Sprite {
+/// Where the table has a sprite.
+pub fn place(view: &View, number: usize) -> usize {
     let mask = if view.wide() { 0x7E } else { 0x7F };
-    let at = view.base(5, mask, 9) + 8 * number;
+    view.base(5, mask, 9) + 8 * number
+}
+
+pub fn entry(view: &View, number: usize) -> Sprite {
+    let at = place(view, number);
     let size = usize::from(view.byte(at + 2));
     Sprite {
         y: usize::from(view.word(at) & 0x1FF),
@@ -70,8 +75,6 @@ pub fn on_line(sprite: &Sprite, line: usize) -> bool {
 /// Follows the links. In a visit: count it, the line and its limit, the visits, the link.
 pub fn walk(view: &View) -> Walk {
     let mut walk = Walk::default();
-    let mut budget = view.width();
-    let mut masked = false;
     let mut number = 0;
     loop {
         walk.visits += 1;
@@ -81,11 +84,7 @@ pub fn walk(view: &View) -> Walk {
                 walk.overflow = true;
                 break;
             }
-            // Masked sprites and those off the screen use up pixels too.
-            let columns = budget.min(8 * sprite.cells_wide);
-            budget -= columns;
-            masked = masked || sprite.x == 0;
-            walk.kept.push(Kept { sprite, columns, masked });
+            walk.kept.push(keep(view, &walk.kept, sprite));
         }
         let last = walk.visits as usize == table_limit(view);
         if last || sprite.link == 0 || sprite.link >= table_limit(view) {
@@ -94,6 +93,30 @@ pub fn walk(view: &View) -> Walk {
         number = sprite.link;
     }
     walk
+}
+
+/// A sprite that is kept after these (definition, Sprites: what shows).
+fn keep(view: &View, earlier: &[Kept], sprite: Sprite) -> Kept {
+    let left = view.width().saturating_sub(widths(earlier));
+    let masked = (0..earlier.len()).any(|place| masks(view, earlier, place));
+    Kept { sprite, columns: left.min(8 * sprite.cells_wide), masked }
+}
+
+/// What these sprites ask of a line's pixels; masked ones and those off the screen ask as much.
+pub fn widths(kept: &[Kept]) -> usize {
+    kept.iter().map(|kept| 8 * kept.sprite.cells_wide).sum()
+}
+
+/// Does the sprite at this place mask those kept after it? Its X has to be 0, and either "one kept
+/// before it has another X" or "used up was set as the line began".
+pub fn masks(view: &View, kept: &[Kept], place: usize) -> bool {
+    let another_x = kept[..place].iter().any(|earlier| earlier.sprite.x != 0);
+    kept[place].sprite.x == 0 && (another_x || view.state.used_up)
+}
+
+/// Have the sprites kept on the line used up its pixels, to the last one or beyond?
+pub fn use_up(view: &View, walk: &Walk) -> bool {
+    widths(&walk.kept) >= view.width()
 }
 
 /// The sprite layer of one line, and whether two shown solid pixels met.

@@ -5,8 +5,8 @@ use crate::cells::{Cell, CELL_COLOUR, CELL_NONE, CELL_REGISTER, CELL_SCROLL, CEL
 use crate::state::{State, Vram, COLOURS, COLOUR_BITS, REGISTERS, SCROLLS, SCROLL_MOST};
 
 pub const RECORD_BYTES: usize = 32;
-/// Version 1 had no timing.
-pub const VERSION: u8 = 2;
+/// Version 1 had no timing, version 2 no used up.
+pub const VERSION: u8 = 3;
 
 pub type Record = [u8; RECORD_BYTES];
 
@@ -64,11 +64,18 @@ pub fn record(before: &State, cell: Cell) -> Record {
     bytes[13..16].copy_from_slice(&before.remaining.to_be_bytes()[1..]);
     bytes[16..19].copy_from_slice(&before.source.to_be_bytes()[1..]);
     bytes[19] = before.fill;
-    bytes[20] = u8::from(before.overflow) + 2 * u8::from(before.collision);
+    bytes[20] = sprite_flags(before);
     bytes[21..23].copy_from_slice(&before.line.to_be_bytes());
     bytes[23] = before.counter;
     bytes[24] = u8::from(before.vertical) + 2 * u8::from(before.horizontal);
     bytes
+}
+
+/// Overflow, collision and used up, as byte 20 has them.
+fn sprite_flags(state: &State) -> u8 {
+    let [overflow, collision, used_up] =
+        [state.overflow, state.collision, state.used_up].map(u8::from);
+    overflow + 2 * collision + 4 * used_up
 }
 
 fn cell_of(record: &Record) -> Cell {
@@ -100,6 +107,7 @@ fn restore_state(state: &mut State, record: &Record) {
     state.fill = record[19];
     state.overflow = record[20] & 1 != 0;
     state.collision = record[20] & 2 != 0;
+    state.used_up = record[20] & 4 != 0;
     state.line = line_of(record);
     state.counter = record[23];
     state.vertical = record[24] & 1 != 0;
@@ -114,7 +122,7 @@ pub fn good_record(record: &Record) -> bool {
         && u16::from_be_bytes([record[1], record[2]]) as usize == RECORD_BYTES
         && good_cell(cell_of(record))
         && record[11] <= 1
-        && record[20] <= 3
+        && record[20] <= 7
         && record[24] <= 3
         && record[25..].iter().all(|byte| *byte == 0)
         && before.good()

@@ -440,7 +440,7 @@ fn step_back_inside_a_recorded_copy() {
     assert_eq!(bench.run(3), Ok(3));
     assert_eq!(bench.run(3), Ok(0));
     assert_eq!(bench.frame(), Err(TAPE_FULL));
-    assert_eq!(bench.0.tape.bytes[..16], [2, 0, 32, 1, 0, 0, 0xAA, 0, 0, 1, 0x30, 0, 4, 0, 0, 3]);
+    assert_eq!(bench.0.tape.bytes[..16], [3, 0, 32, 1, 0, 0, 0xAA, 0, 0, 1, 0x30, 0, 4, 0, 0, 3]);
     assert_eq!(bench.back(2), Ok(0));
     assert_eq!((bench.0.count, bench.state().remaining), (1, 2));
     assert_eq!(bench.vram()[..4], [0xAA, 0xAA, 0, 0]);
@@ -469,7 +469,7 @@ fn steps_that_store_nothing_have_no_cell() {
     assert_eq!(bench.acknowledge(4), Ok(0));
     assert_eq!(bench.0.count, 9);
     for record in bench.0.tape.bytes.chunks(32).take(9) {
-        assert_eq!(record[..8], [2, 0, 32, 0, 0, 0, 0, 0]);
+        assert_eq!(record[..8], [3, 0, 32, 0, 0, 0, 0, 0]);
     }
     bench.control(&[0x8F02]);
     assert_eq!(bench.0.tape.bytes[9 * 32 + 3..9 * 32 + 8], [4, 0, 15, 0, 0]);
@@ -534,10 +534,10 @@ fn kinds_keep_to_their_ops() {
             for command in stream(seed, kind, 400) {
                 let plain = matches!(command.op, 1..=7 | 9 | 12..=16 | 32..=36 | 39 | 48);
                 let fits = match kind {
-                    Kind::Ports | Kind::Dma | Kind::Refusals => plain,
+                    Kind::Ports | Kind::Dma => plain,
+                    Kind::Refusals => plain || command.op == 8,
                     Kind::Drawing => plain || matches!(command.op, 8 | 11),
-                    Kind::Tape => command.op != 8 && command.op != 11,
-                    Kind::Timing => command.op != 11,
+                    Kind::Tape | Kind::Timing => command.op != 11,
                     Kind::Mix => true,
                 };
                 assert!(fits, "{kind:?} {seed}: {command:?}");

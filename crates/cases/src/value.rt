@@ -82,6 +82,7 @@ pub(crate) fn value(c: Case, vram: &[u8], which: u32, i: u32) -> u32 {
         0..=12 => state_field(c.machine.state, which, i as usize),
         16 | 17 | 20 => memory_value(c, vram, which, i),
         21..=24 => timing_value(c.machine.state.control.timing, which),
+        25 => truth(c.machine.state.control.flags.used_up),
         _ => answer_value(c, which),
     }
 }

@@ -76,14 +76,14 @@ fn timing(h: u32, t: Timing) -> u32 {
     )
 }
 
-// The state's bytes: the registers, the colour words, the scroll words, the control part but for the timing, PAL, and
-// the timing.
+// The state's bytes: the registers, the colour words, the scroll words, the control part but for the timing and used
+// up, PAL, the timing, and used up.
 pub fn state(s: State) -> u32 {
     let registers = bytes(0, &s.registers);
     let colours = words(registers, &s.cram);
     let scrolls = words(colours, &s.vsram);
     let pal = truth(control(scrolls, s.control), s.pal);
-    timing(pal, s.control.timing)
+    truth(timing(pal, s.control.timing), s.control.flags.used_up)
 }
 
 // The line of command 48: the digests of the state and of four buffers, and the count.

@@ -39,12 +39,13 @@ fn dma_with(d: Dma, a: u8, c: u32) -> Dma {
     next
 }
 
-// Fields 10 and 11.
+// Fields 10, 11 and 17.
 fn flags_with(f: Flags, a: u8, c: u32) -> Flags {
     let mut next = f;
     match a {
         10 => next.overflow = to_truth(c),
         11 => next.collision = to_truth(c),
+        17 => next.used_up = to_truth(c),
         _ => {}
     }
     next
@@ -63,7 +64,7 @@ fn timing_with(t: Timing, a: u8, c: u32) -> Timing {
     next
 }
 
-// The control part, with one of fields 3 to 11 or 13 to 16 set.
+// The control part, with one of fields 3 to 11 or 13 to 17 set.
 fn control_with(k: Control, a: u8, c: u32) -> Control {
     Control {
         port: port_with(k.port, a, c),

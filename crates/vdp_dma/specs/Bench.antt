@@ -56,7 +56,7 @@ copying = controls (0x8f01 ∷ 0x9303 ∷ 0x9400 ∷ 0x97c0 ∷ 0x8114 ∷ 0x000
 
 -- "overflow and collision set"
 abbrev pub flagged : State
-flagged = withControl start (withFlags (start .control) (record { overflow = true; collision = true }))
+flagged = withControl start (withFlags (start .control) (record { overflow = true; collision = true; «used_up» = false }))
 
 -- DMA asked for "with registers 19 and 20 zero", by the word for register 23 and the two halves of a command
 abbrev pub zeroLength : ℕ → ℕ → ℕ → State

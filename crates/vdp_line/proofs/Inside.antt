@@ -82,7 +82,7 @@ module _ (s : State) (m m′ : List ℕ) (line : ℕ) (same : SameInside m m′)
   b-same x = row-same (rowB (chip s m) line x) (rowB (chip s m′) line x) x (simp (horizontal-same 1 (omega arith))) (reads .cell-b x)
 
   made-same : (pixels : List ℕ) → lineMade (chip s m) line pixels ≡ lineMade (chip s m′) line pixels
-  made-same pixels = simp (sprites-same m m′ same (baseSprites s) (wide s) (reads .sprite) line, a-same, b-same)
+  made-same pixels = simp (sprites-same m m′ same (baseSprites s) (wide s) (reads .sprite) (s .control .flags .«used_up») line, a-same, b-same)
 
 pub nothing-past-end : NothingPastEnd
 nothing-past-end s m m′ line pixels z same = made-same s m m′ line same (tables-inside (chip s m) line pixels z) pixels

@@ -4,3 +4,4 @@ pub mod Made
 pub mod Accepted
 pub mod Decided
 pub mod Inside
+pub mod Bench

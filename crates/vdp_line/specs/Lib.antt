@@ -1,3 +1,4 @@
+pub mod Bench
 pub mod Inside
 pub mod Layer
 pub mod Layout

@@ -1,6 +1,6 @@
 -- A line: definition, Drawing and Numbers a call may answer.
 use Prim.Native.Nat.{ℕ, _*_}
-use mathlib.Core.Bool.{Bool, cond, not, _||_, Bool·beq}
+use mathlib.Core.Bool.{false, cond, not, _||_, Bool·beq}
 use mathlib.Core.List.{List, [], _∷_, _++_}
 use lib.Dec.{eqb, leb, ltb}
 use lib.ListN.{length, getD, drop}
@@ -53,9 +53,10 @@ lineTests c line pixels =
 abbrev pub lineNumber : Chip → ℕ → List ℕ → ℕ
 lineNumber c line pixels = first (lineTests c line pixels)
 
--- what the sprites give to the line
+-- what the sprites give to the line: "Used up as the line began is what the state holds before the call"
 abbrev pub spritesOf : Chip → ℕ → SpriteLine
-spritesOf c line = spriteLine (c .vram) (baseSprites (c .state)) (wide (c .state)) line
+spritesOf c line =
+    spriteLine (c .vram) (baseSprites (c .state)) (wide (c .state)) (c .state .control .flags .«used_up») line
 
 -- the colour index on column x of a displayed line, with the sprites' dots
 abbrev pub mixed : Chip → ℕ → List ℕ → ℕ → ℕ
@@ -65,19 +66,26 @@ mixed c line dots x = mix (backdrop (c .state)) (dotB c line x) (dotA c line x) 
 abbrev pub drawn : State → (ℕ → ℕ) → List ℕ → List ℕ
 drawn s pixel pixels = tabulate pixel (widthOf (wide s)) ++ drop (widthOf (wide s)) pixels
 
--- "A line sets overflow or collision where it meets them and never clears them."
-abbrev pub flagged : Control → Bool → Bool → Control
-flagged k overflow collision =
-    withFlags k (record { overflow = k .flags .overflow || overflow; collision = k .flags .collision || collision })
+-- "A line sets overflow or collision where it meets them and never clears them. It sets used up if .., and clears it if
+-- not."
+abbrev pub flagged : Control → SpriteLine → Control
+flagged k found =
+    withFlags k
+    (record {
+      overflow = k .flags .overflow || found .overflow;
+      collision = k .flags .collision || found .collision;
+      «used_up» = found .«used_up»;
+    })
 
--- a line changes the control part and stores nothing: the sprites' flags, where it is displayed
+-- "A blanked line clears used up and leaves overflow and collision."
+abbrev pub blanked : Control → Control
+blanked k = withFlags k (record { overflow = k .flags .overflow; collision = k .flags .collision; «used_up» = false })
+
+-- a line changes the flags and stores nothing
 abbrev pub lineStep : Chip → ℕ → Step
 lineStep c n =
-    let found = spritesOf c n in
-    record {
-      control = cond (displayed (c .state)) (flagged (c .state .control) (found .overflow) (found .collision)) (c .state .control);
-      store = Nothing;
-    }
+    let k = c .state .control in
+    record { control = cond (displayed (c .state)) (flagged k (spritesOf c n)) (blanked k); store = Nothing }
 
 -- "The result is the number of visits"; where the line is blanked "no sprite is visited"
 abbrev pub visits : Chip → ℕ → ℕ

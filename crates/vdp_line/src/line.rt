@@ -3,7 +3,7 @@ ghost use mathlib.Core.Path.{_≡_};
 ghost use mathlib.Core.Bool.{true, false};
 ghost use lib.ListN.{length};
 ghost use Rattle.vdp_state.specs.State.{chip};
-ghost use Rattle.vdp_line.specs.Line.{flagged as flaggedControl, lineOutcome, lineMade, line as lineOf};
+ghost use Rattle.vdp_line.specs.Line.{flagged as flaggedControl, blanked as blankedControl, lineOutcome, lineMade, line as lineOf};
 ghost use Rattle.vdp_line.specs.Layout.{displayed as isDisplayed};
 use crate::columns::blank_columns;
 use crate::columns::draw_columns;
@@ -13,6 +13,7 @@ use crate::layout::displayed;
 use crate::layout::wide;
 use crate::number::line_number;
 use vdp_draw::width::width_of;
+use vdp_sprites::sprite_line::SpriteLine;
 use vdp_sprites::sprite_line::sprite_line;
 use vdp_state::answer::Answer;
 use vdp_state::answer::DONE;
@@ -20,14 +21,26 @@ use vdp_state::state::Control;
 use vdp_state::state::Flags;
 use vdp_state::state::State;
 
-// The control part once the sprites' flags are set.
-fn flagged(c: Control, overflow: bool, collision: bool) -> Control
-    ensures { λ r. ⌜ r ≡ flaggedControl c overflow collision ⌝ }
+// The control part after a displayed line: overflow and collision are never cleared, used up is as the line left it.
+fn flagged(c: Control, found: SpriteLine) -> Control
+    ensures { λ r. ⌜ r ≡ flaggedControl c found ⌝ }
 {
     let flags = Flags {
-        overflow: c.flags.overflow | overflow,
-        collision: c.flags.collision | collision,
+        overflow: c.flags.overflow | found.overflow,
+        collision: c.flags.collision | found.collision,
+        used_up: found.used_up,
     };
+    let mut next = c;
+    next.flags = flags;
+    next
+}
+
+// The control part after a blanked line: used up is cleared.
+fn blanked(c: Control) -> Control
+    ensures { λ r. ⌜ r ≡ blankedControl c ⌝ }
+{
+    let mut flags = c.flags;
+    flags.used_up = false;
     let mut next = c;
     next.flags = flags;
     next
@@ -38,11 +51,17 @@ fn shown_line(s: State, vram: &[u8], line: u8, pixels: &mut [u8]) -> Answer
     requires { ⌜ (isDisplayed s ≡ true) × (length (now pixels) ≡ 320) ⌝ }
     ensures { λ r. ⌜ lineOutcome r (now (pixels .exit)) ≡ lineMade (chip s (now (vram .entry))) line (now (pixels .entry)) ⌝ }
 {
-    let found = sprite_line(vram, base_sprites(s), wide(s), line);
+    let found = sprite_line(
+        vram,
+        base_sprites(s),
+        wide(s),
+        s.control.flags.used_up,
+        line,
+    );
     let dots = found.dots;
     draw_columns(s, vram, line, &dots, pixels);
     let mut next = s;
-    let control = flagged(s.control, found.overflow, found.collision);
+    let control = flagged(s.control, found);
     next.control = control;
     Answer {
         number: DONE,
@@ -57,10 +76,13 @@ fn blank_line(s: State, vram: &[u8], line: u8, pixels: &mut [u8]) -> Answer
     ensures { λ r. ⌜ lineOutcome r (now (pixels .exit)) ≡ lineMade (chip s (now (vram .entry))) line (now (pixels .entry)) ⌝ }
 {
     blank_columns(width_of(wide(s)), backdrop(s), pixels);
+    let mut next = s;
+    let control = blanked(s.control);
+    next.control = control;
     Answer {
         number: DONE,
         result: 0,
-        state: s,
+        state: next,
     }
 }
 

@@ -1,4 +1,5 @@
--- A new frame: definition, Ports ("A new frame clears overflow and collision and changes nothing else.").
+-- A new frame: definition, Ports ("A new frame clears overflow, collision and used up and changes nothing else.").
+use mathlib.Core.Bool.{false}
 use mathlib.Core.List.{List, [], _∷_}
 use Rattle.vdp_state.specs.declared.answer.Answer.{Answer}
 use Rattle.vdp_state.specs.declared.state.State.{State}
@@ -9,7 +10,7 @@ use Rattle.vdp_ports.specs.Refusal.{badState}
 use Rattle.vdp_ports.specs.Status.{flagsCleared}
 
 abbrev pub frameStep : State → Step
-frameStep s = record { control = flagsCleared (s .control); store = Nothing }
+frameStep s = record { control = flagsCleared (s .control) false; store = Nothing }
 
 abbrev pub frameTests : State → List Test
 frameTests s = badState s ∷ []

@@ -29,13 +29,17 @@ statusWord s =
     + flag (s .control .flags .collision) 0x20 + flag (blanking (s .control .timing .line)) 8 + flag (filling s) 2
     + flag (s .pal) 1
 
--- a status read and a new frame both clear "overflow and collision"
-abbrev pub flagsCleared : Control → Control
-flagsCleared c = withFlags c (record { overflow = false; collision = false })
+-- a status read and a new frame both clear overflow and collision; used up is then as given
+abbrev pub flagsCleared : Control → Bool → Control
+flagsCleared c usedUp = withFlags c (record { overflow = false; collision = false; «used_up» = usedUp })
 
--- "Then it clears pending, overflow and collision, and changes nothing else."
+-- "Then it clears pending, overflow and collision, and changes nothing else; used up and vertical stay."
 abbrev pub statusStep : State → Step
-statusStep s = record { control = flagsCleared (withPort (s .control) (settled (s .control .port))); store = Nothing }
+statusStep s =
+    record {
+      control = flagsCleared (withPort (s .control) (settled (s .control .port))) (s .control .flags .«used_up»);
+      store = Nothing;
+    }
 
 abbrev pub statusTests : State → List Test
 statusTests s = badState s ∷ busyAtStatus s ∷ []

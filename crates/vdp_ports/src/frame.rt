@@ -12,11 +12,11 @@ use vdp_state::state::State;
 use vdp_state::state::Step;
 use vdp_state::state::Store;
 
-// What a new frame decides: both sprite flags are cleared.
+// What a new frame decides: overflow, collision and used up are cleared.
 pub fn frame_step(s: State) -> Step
     ensures { λ r. ⌜ r ≡ frameStep s ⌝ }
 {
-    let cleared = flags_cleared(s.control);
+    let cleared = flags_cleared(s.control, false);
     Step {
         control: cleared,
         store: Store::Nothing,

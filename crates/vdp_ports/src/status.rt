@@ -45,20 +45,21 @@ pub fn status_word(s: State) -> u16
     0x3600 + vertical + overflow + collision + blank_bit + busy + pal
 }
 
-// The control part with both sprite flags cleared, as a status read and a new frame leave them.
-pub(crate) fn flags_cleared(control: Control) -> Control
-    ensures { λ r. ⌜ r ≡ flagsCleared control ⌝ }
+// The control part with overflow and collision cleared, as a status read and a new frame leave them; used up as given.
+pub(crate) fn flags_cleared(control: Control, used: bool) -> Control
+    ensures { λ r. ⌜ r ≡ flagsCleared control used ⌝ }
 {
     let flags = Flags {
         overflow: false,
         collision: false,
+        used_up: used,
     };
     let mut cleared = control;
     cleared.flags = flags;
     cleared
 }
 
-// What a status read decides: pending and both sprite flags are cleared.
+// What a status read decides: pending, overflow and collision are cleared.
 pub fn status_step(s: State) -> Step
     ensures { λ r. ⌜ r ≡ statusStep s ⌝ }
 {
@@ -66,7 +67,7 @@ pub fn status_step(s: State) -> Step
     port.pending = false;
     let mut control = s.control;
     control.port = port;
-    let cleared = flags_cleared(control);
+    let cleared = flags_cleared(control, s.control.flags.used_up);
     Step {
         control: cleared,
         store: Store::Nothing,

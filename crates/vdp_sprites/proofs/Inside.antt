@@ -79,9 +79,9 @@ module _ (m m′ : List ℕ) (same : SameInside m m′) (base : ℕ) (wide : Boo
       by-cond Kept (onLine s line) _ _
       (λ e. by-cond Kept (eqb room 0) _ _ (λ full. refl) (λ free. ap₂ _∷_ (sprite-same i h) (rest (room - 1)))) (λ e. rest room)
 
-  pub sprites-same : (line : ℕ) → spriteLine m base wide line ≡ spriteLine m′ base wide line
+  pub sprites-same : (began : Bool) (line : ℕ) → spriteLine m base wide began line ≡ spriteLine m′ base wide began line
   unfolding spriteLine
-  sprites-same line =
+  sprites-same began line =
       let walks : walk m base wide line ≡ walk m′ base wide line = walk-same line (mostVisits wide) (mostOnLine wide) 0 (first-visited wide) in
       let kept : Kept (walk m′ base wide line) = kept-same line (mostVisits wide) (mostOnLine wide) 0 (first-visited wide) in
       simp (walks, kept, dots-same m m′ same line, count-same m m′ same line)

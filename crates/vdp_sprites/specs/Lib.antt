@@ -4,4 +4,5 @@ pub mod Kept
 pub mod Shown
 pub mod Sprite
 pub mod SpriteLine
+pub mod Used
 pub mod Walk

@@ -3,4 +3,5 @@
 pub mod paint;
 pub mod sprite;
 pub mod sprite_line;
+pub mod used;
 pub mod walk;

@@ -75,23 +75,26 @@ fn columns_shown(left: u32, masked: bool, s: Sprite) -> u16
     smaller(left, 8 * (s.columns as u32)) as u16
 }
 
-// Puts the kept sprites on clear columns in their order; whether two solid dots met.
+// Puts the kept sprites on clear columns in their order, `began` being used up as the line began; whether two solid
+// dots met.
 pub(crate) fn paint_kept(
     vram: &[u8],
     base: u16,
     w: KeptSprites,
     line: u8,
     width: u32,
+    began: bool,
     dots: &mut [u8],
 ) -> bool
     requires { ⌜ (w .count ≤ 20) × (width ≤ 320) × (width ≤ length (now dots)) ⌝ }
     ensures { λ _. ⌜ now (dots .exit)
-        ≡ behindAll (now (vram .entry)) line width (shownKept (now (vram .entry)) base width w) (now (dots .entry)) ⌝ }
-    ensures { λ r. ⌜ r ≡ meetsAll (now (vram .entry)) line width (shownKept (now (vram .entry)) base width w) (now (dots .entry)) ⌝ }
+        ≡ behindAll (now (vram .entry)) line width (shownKept (now (vram .entry)) base width began w) (now (dots .entry)) ⌝ }
+    ensures { λ r. ⌜ r ≡ meetsAll (now (vram .entry)) line width (shownKept (now (vram .entry)) base width began w) (now (dots .entry)) ⌝ }
 {
     let kept = w.kept;
     let count = w.count;
     let mut left = width;
+    let mut can_mask = began;
     let mut masked = false;
     let mut met = false;
     let mut k = 0;
@@ -100,7 +103,8 @@ pub(crate) fn paint_kept(
         let columns = columns_shown(left, masked, s);
         met = met | paint(vram, s, columns, line, width, dots);
         left = less(left, 8 * (s.columns as u32));
-        masked = masked | (s.x == 0);
+        masked = masked | (can_mask & (s.x == 0));
+        can_mask = can_mask | (s.x != 0);
         k += 1;
     }
     met

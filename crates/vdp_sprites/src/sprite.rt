@@ -1,6 +1,6 @@
 // A sprite of the table (definition, Drawing; notes s15).
 ghost use mathlib.Core.Path.{_≡_};
-ghost use Prim.Native.Nat.{_<_};
+ghost use Prim.Native.Nat.{_+_, _/_, _%_, _<_};
 ghost use Rattle.vdp_sprites.specs.Sprite.{spriteFrom, spriteAt, onLine};
 use vdp_state::cell::byte_at;
 use vdp_state::cell::word_at;
@@ -15,6 +15,13 @@ pub struct Sprite {
     pub x: u16,
 }
 
+// The width in cells, of the size byte.
+fn columns_of(size: u8) -> u8
+    ensures { λ r. ⌜ r ≡ size / 4 % 4 + 1 ⌝ }
+{
+    size / 4 % 4 + 1
+}
+
 // The sprite whose first byte lies at a place.
 fn sprite_from(vram: &[u8], place: u32) -> Sprite
     requires { ⌜ place < 1048576 ⌝ }
@@ -23,7 +30,7 @@ fn sprite_from(vram: &[u8], place: u32) -> Sprite
     let size = byte_at(vram, (place + 2) as usize);
     Sprite {
         y: word_at(vram, place) % 512,
-        columns: size / 4 % 4 + 1,
+        columns: columns_of(size),
         rows: size % 4 + 1,
         link: byte_at(vram, (place + 3) as usize) % 128,
         cell: word_at(vram, place + 4),
@@ -36,6 +43,13 @@ pub fn sprite_at(vram: &[u8], base: u16, i: u8) -> Sprite
     ensures { λ r. ⌜ r ≡ spriteAt (now (vram .entry)) base i ⌝ }
 {
     sprite_from(vram, (base as u32) + 8 * (i as u32))
+}
+
+// The width in cells of sprite i, read by itself.
+pub(crate) fn columns_at(vram: &[u8], base: u16, i: u8) -> u8
+    ensures { λ r. ⌜ r ≡ spriteAt (now (vram .entry)) base i .columns ⌝ }
+{
+    columns_of(byte_at(vram, (base as usize) + 8 * (i as usize) + 2))
 }
 
 // Whether a line of the screen crosses the sprite.

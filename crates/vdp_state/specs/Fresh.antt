@@ -13,7 +13,7 @@ fresh pal = record {
   control = record {
     port = record { address = 0; code = 0; pending = false };
     dma = record { kind = 0; remaining = 0; source = 0; fill = 0 };
-    flags = record { overflow = false; collision = false };
+    flags = record { overflow = false; collision = false; «used_up» = false };
     timing = record { line = lastLine; counter = 0; vertical = false; horizontal = false };
   };
   pal = pal;

@@ -31,6 +31,7 @@ pub fn fresh(pal: bool) -> State
             flags: Flags {
                 overflow: false,
                 collision: false,
+                used_up: false,
             },
             timing: Timing {
                 line: LAST_LINE,

@@ -18,11 +18,12 @@ pub struct Dma {
     pub fill: u8,
 }
 
-// The sprite flags of the status word.
+// The sprite flags of the status word, and whether the sprites of the line drawn last used up its pixels.
 #[repr(C)]
 pub struct Flags {
     pub overflow: bool,
     pub collision: bool,
+    pub used_up: bool,
 }
 
 // The line that the display is on, the line counter, status bit 7 (the vertical interrupt has come), and whether a

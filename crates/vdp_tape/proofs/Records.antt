@@ -8,7 +8,7 @@ use mathlib.Core.Path.{_≡_, refl, sym, ap, ap₂, _∙_}
 use mathlib.Core.Bool.{Bool, true, false, _&&_}
 use mathlib.Core.List.{List, [], _∷_, _++_, append-assoc}
 use native.Mathlib.Omega.{arith}
-use borrow.Author.Tests.{eqb-true, leb-true, ltb-true}
+use borrow.Author.Tests.{eq-eqb, ne-eqb, eqb-true, leb-true, ltb-true}
 use lib.Dec.{eqb, ltb}
 use lib.ListN.{length, getD, length-append}
 use Rattle.vdp_state.specs.declared.state.Control.{Control}
@@ -22,7 +22,7 @@ use Rattle.vdp_state.specs.Same.{same}
 use Rattle.vdp_state.proofs.Bools.{both-left, both-right, both}
 use Rattle.vdp_state.proofs.Facts.{dma-facts, source-bits, parts}
 use Rattle.vdp_state.proofs.Same.{same-equal, same-self}
-use Rattle.vdp_tape.specs.Record.{keptOf, storeOf, flagBit, flagPair, firstFlag, secondFlag, Field, layout, Reading, reading, bytesOf, numberAt, written, recordOf, readFrom, stepOf, goodRecord}
+use Rattle.vdp_tape.specs.Record.{keptOf, storeOf, flagBit, flagByte, flagAt, Field, layout, Reading, reading, bytesOf, numberAt, written, recordOf, readFrom, stepOf, goodRecord}
 
 -- ---- a number in bytes
 -- so many bytes hold n
@@ -116,20 +116,31 @@ kept-fits (Register i b) e =
     let f : b < 256 = ltb-true b 256 (both-right (ltb i 24) (ltb b 256) e) in
     record { place = omega arith; content = omega arith; back = ap₂ Register (index-back i (omega arith)) (index-back b f) }
 
-pub record PairFits (a b : Bool) : Type 0 where
-  pub fits : InBytes 1 (flagPair a b)
-  pub one : firstFlag (flagPair a b) ≡ a
-  pub two : secondFlag (flagPair a b) ≡ b
-
-pub pair-fits : (a b : Bool) → PairFits a b
-pair-fits true true = record { fits = refl; one = refl; two = refl }
-pair-fits true false = record { fits = refl; one = refl; two = refl }
-pair-fits false true = record { fits = refl; one = refl; two = refl }
-pair-fits false false = record { fits = refl; one = refl; two = refl }
-
 pub flag-bit-fits : (b : Bool) → InBytes 1 (flagBit b) × (eqb (flagBit b) 1 ≡ b)
 flag-bit-fits true = (refl, refl)
 flag-bit-fits false = (refl, refl)
+
+-- ---- flags in a byte, up to three of them
+pub bit-small : (b : Bool) → flagBit b ≤ 1
+bit-small true = omega arith
+bit-small false = omega arith
+
+pub flags-fit : (a b c : Bool) → InBytes 1 (flagByte (a ∷ b ∷ c ∷ []))
+flags-fit a b c = omega (arith, bit-small a, bit-small b, bit-small c)
+
+-- the first flag, and those after it
+flag-first : (b : Bool) (n : ℕ) → flagAt (flagBit b + 2 * n) 0 ≡ b
+flag-first true n = eq-eqb ((1 + 2 * n) % 2) 1 (omega arith)
+flag-first false n = ne-eqb ((0 + 2 * n) % 2) 1 (λ e. omega arith)
+
+flag-later : (b : Bool) (n i : ℕ) → flagAt (flagBit b + 2 * n) (suc i) ≡ flagAt n i
+flag-later b n i = ap (λ (m : ℕ). flagAt m i) (let half : (flagBit b + 2 * n) / 2 ≡ n = omega (arith, bit-small b) in half)
+
+flag-second : (a b : Bool) (n : ℕ) → flagAt (flagBit a + 2 * (flagBit b + 2 * n)) 1 ≡ b
+flag-second a b n = flag-later a (flagBit b + 2 * n) 0 ∙ flag-first b n
+
+flag-third : (a b c : Bool) (n : ℕ) → flagAt (flagBit a + 2 * (flagBit b + 2 * (flagBit c + 2 * n))) 2 ≡ c
+flag-third a b c n = flag-later a (flagBit b + 2 * (flagBit c + 2 * n)) 1 ∙ flag-second b c n
 
 module _ (t : Step) (g : GoodStep t) where
   abbrev k : Control
@@ -147,19 +158,28 @@ module _ (t : Step) (g : GoodStep t) where
       let remaining : InBytes 3 (k .dma .remaining) = omega (arith, d .most) in
       let source : InBytes 3 (k .dma .source) = omega (arith, bits) in
       let fill : InBytes 1 (k .dma .fill) = omega (arith, p .dma .1) in
-      let flags = pair-fits (k .flags .overflow) (k .flags .collision) .fits in
+      let flags = flags-fit (k .flags .overflow) (k .flags .collision) (k .flags .«used_up») in
       let line : InBytes 2 (k .timing .line) = omega (arith, leb-true (k .timing .line) lastLine (p .timing .0)) in
       let counter : InBytes 1 (k .timing .counter) = omega (arith, p .timing .1) in
-      let interrupts = pair-fits (k .timing .vertical) (k .timing .horizontal) .fits in
+      let interrupts = flags-fit (k .timing .vertical) (k .timing .horizontal) false in
       row refl (row refl (row (kind-fits (t .store)) (row (x .place) (row (x .content) (row address (row code (row (flag-bit-fits (k .port .pending) .0)
       (row kind (row remaining (row source (row fill (row flags (row line (row counter (row interrupts (row refl end))))))))))))))))
 
   pub read-back : stepOf (recordOf t) ≡ t
   read-back =
-      let f = pair-fits (k .flags .overflow) (k .flags .collision) in
-      let i = pair-fits (k .timing .vertical) (k .timing .horizontal) in
+      let f = k .flags in
+      let interrupts = k .timing in
       fields-back layout reading t [] fit
-      ∙ ap₂ (λ (c : Control) (x : Store). record { control = c; store = x }) (simp (flag-bit-fits (k .port .pending) .1, f .one, f .two, i .one, i .two)) (kept-fits (t .store) (g .store) .back)
+      ∙ ap₂ (λ (c : Control) (x : Store). record { control = c; store = x })
+      (simp (
+        flag-bit-fits (k .port .pending) .1,
+        flag-first (f .overflow) (flagByte (f .collision ∷ f .«used_up» ∷ [])),
+        flag-second (f .overflow) (f .collision) (flagByte (f .«used_up» ∷ [])),
+        flag-third (f .overflow) (f .collision) (f .«used_up») 0,
+        flag-first (interrupts .vertical) (flagByte (interrupts .horizontal ∷ [])),
+        flag-second (interrupts .vertical) (interrupts .horizontal) 0,
+      ))
+      (kept-fits (t .store) (g .store) .back)
 
   pub record-good : goodRecord (recordOf t) ≡ true
   record-good =

@@ -4,6 +4,7 @@ use mathlib.Core.Bool.{Bool, cond, _&&_}
 use mathlib.Core.List.{List, [], _∷_, _++_}
 use lib.Dec.{eqb}
 use lib.ListN.{getD, take, drop}
+use Rattle.vdp_state.specs.declared.state.Flags.{Flags}
 use Rattle.vdp_state.specs.declared.state.Step.{Step}
 use Rattle.vdp_state.specs.declared.state.Store.{Store}
 use Rattle.vdp_state.specs.declared.state.Store.the-variants.{Nothing, Vram, Cram, Vsram, Register}
@@ -36,19 +37,22 @@ storeOf c =
 abbrev pub flagBit : Bool → ℕ
 flagBit b = cond b 1 0
 
--- two flags in a byte: 1 if the first is set, plus 2 if the second is
-abbrev pub flagPair : Bool → Bool → ℕ
-flagPair a b = flagBit a + 2 * flagBit b
+-- flags in a byte: 1 if the first is set, plus 2 if the second is, plus 4 if the third is; and the flag at an index
+abbrev pub flagByte : List Bool → ℕ
+flagByte [] = 0
+flagByte (b ∷ bs) = flagBit b + 2 * flagByte bs
 
-abbrev pub firstFlag : ℕ → Bool
-firstFlag n = eqb (n % 2) 1
+abbrev pub flagAt : ℕ → ℕ → Bool
+flagAt n zero = eqb (n % 2) 1
+flagAt n (suc i) = flagAt (n / 2) i
 
-abbrev pub secondFlag : ℕ → Bool
-secondFlag n = eqb (n / 2 % 2) 1
+-- the sprite flags of a byte: "1 if overflow is set, plus 2 if collision is set, plus 4 if used up is set"
+abbrev pub flagsOf : ℕ → Flags
+flagsOf n = record { overflow = flagAt n 0; collision = flagAt n 1; «used_up» = flagAt n 2 }
 
--- "the version, 2"
+-- "the version, 3"
 abbrev pub version : ℕ
-version = 2
+version = 3
 
 -- a field: how many bytes it has, and the number that it holds for a step
 pub record Field : Type 0 where
@@ -73,10 +77,10 @@ layout =
     ∷ field 3 (λ t. t .control .dma .remaining)
     ∷ field 3 (λ t. t .control .dma .source)
     ∷ field 1 (λ t. t .control .dma .fill)
-    ∷ field 1 (λ t. flagPair (t .control .flags .overflow) (t .control .flags .collision))
+    ∷ field 1 (λ t. flagByte (t .control .flags .overflow ∷ t .control .flags .collision ∷ t .control .flags .«used_up» ∷ []))
     ∷ field 2 (λ t. t .control .timing .line)
     ∷ field 1 (λ t. t .control .timing .counter)
-    ∷ field 1 (λ t. flagPair (t .control .timing .vertical) (t .control .timing .horizontal))
+    ∷ field 1 (λ t. flagByte (t .control .timing .vertical ∷ t .control .timing .horizontal ∷ []))
     ∷ field 7 (λ t. 0)
     ∷ []
 
@@ -91,12 +95,12 @@ reading v size kind place content address code pending dma remaining source fill
       control = record {
         port = record { address = address; code = code; pending = eqb pending 1 };
         dma = record { kind = dma; remaining = remaining; source = source; fill = fill };
-        flags = record { overflow = firstFlag flags; collision = secondFlag flags };
+        flags = flagsOf flags;
         timing = record {
           line = line;
           counter = counter;
-          vertical = firstFlag interrupts;
-          horizontal = secondFlag interrupts;
+          vertical = flagAt interrupts 0;
+          horizontal = flagAt interrupts 1;
         };
       };
       store = storeOf (kept kind place content);

@@ -1,7 +1,8 @@
 // A tape record (definition, The tape): the step that undoes a step, in 32 bytes.
 ghost use mathlib.Core.Path.{_≡_};
-ghost use Prim.Native.Nat.{_+_, _*_};
-ghost use Rattle.vdp_tape.specs.Record.{keptOf, storeOf, flagBit, flagPair, firstFlag, secondFlag, numberAt, recordOf, stepOf, goodRecord};
+ghost use mathlib.Core.List.{[], _∷_};
+ghost use Prim.Native.Nat.{_+_, _*_, _≤_};
+ghost use Rattle.vdp_tape.specs.Record.{keptOf, storeOf, flagBit, flagByte, flagAt, flagsOf, numberAt, recordOf, stepOf, goodRecord};
 ghost use Rattle.vdp_state.specs.Range.{goodStore};
 ghost use Rattle.vdp_state.specs.Same.{same as sameBytes};
 use vdp_state::cell::byte_at;
@@ -17,7 +18,7 @@ use vdp_state::state::Store;
 use vdp_state::state::Timing;
 
 // The layout: the version, and where the fields stand that are read.
-const VERSION: u8 = 2;
+const VERSION: u8 = 3;
 
 const KEPT_KIND: u8 = 3;
 
@@ -102,31 +103,44 @@ fn store_of(c: KeptCell) -> Store
 
 fn flag_bit(b: bool) -> u8
     ensures { λ r. ⌜ r ≡ flagBit b ⌝ }
+    ensures { λ r. ⌜ r ≤ 1 ⌝ }
 {
     if b { 1 } else { 0 }
 }
 
-// Two flags as a byte.
-fn flag_pair(a: bool, b: bool) -> u8
-    ensures { λ r. ⌜ r ≡ flagPair a b ⌝ }
+// Three flags as a byte.
+fn flag_byte(a: bool, b: bool, c: bool) -> u8
+    ensures { λ r. ⌜ r ≡ flagByte (a ∷ b ∷ c ∷ []) ⌝ }
 {
-    if a {
-        if b { 3 } else { 1 }
-    } else {
-        if b { 2 } else { 0 }
-    }
+    flag_bit(a) + 2 * (flag_bit(b) + 2 * flag_bit(c))
 }
 
 fn first_flag(n: u8) -> bool
-    ensures { λ r. ⌜ r ≡ firstFlag n ⌝ }
+    ensures { λ r. ⌜ r ≡ flagAt n 0 ⌝ }
 {
     n % 2 == 1
 }
 
 fn second_flag(n: u8) -> bool
-    ensures { λ r. ⌜ r ≡ secondFlag n ⌝ }
+    ensures { λ r. ⌜ r ≡ flagAt n 1 ⌝ }
 {
     n / 2 % 2 == 1
+}
+
+fn third_flag(n: u8) -> bool
+    ensures { λ r. ⌜ r ≡ flagAt n 2 ⌝ }
+{
+    n / 2 / 2 % 2 == 1
+}
+
+fn flags_of(n: u8) -> Flags
+    ensures { λ r. ⌜ r ≡ flagsOf n ⌝ }
+{
+    Flags {
+        overflow: first_flag(n),
+        collision: second_flag(n),
+        used_up: third_flag(n),
+    }
 }
 
 // The 32 bytes of a step.
@@ -137,8 +151,8 @@ pub fn record_of(t: Step) -> [u8; 32]
     let c = kept_of(store);
     let k = t.control;
     let pending = flag_bit(k.port.pending);
-    let flags = flag_pair(k.flags.overflow, k.flags.collision);
-    let interrupts = flag_pair(k.timing.vertical, k.timing.horizontal);
+    let flags = flag_byte(k.flags.overflow, k.flags.collision, k.flags.used_up);
+    let interrupts = flag_byte(k.timing.vertical, k.timing.horizontal, false);
     [
         VERSION,
         0,
@@ -208,7 +222,6 @@ fn three_at(bytes: &[u8], i: u8) -> u32
 fn control_of(bytes: &[u8]) -> Control
     ensures { λ r. ⌜ r ≡ stepOf (now (bytes .entry)) .control ⌝ }
 {
-    let flags = one_at(bytes, FLAGS);
     let interrupts = one_at(bytes, INTERRUPTS);
     Control {
         port: Port {
@@ -222,10 +235,7 @@ fn control_of(bytes: &[u8]) -> Control
             source: three_at(bytes, SOURCE),
             fill: one_at(bytes, FILL),
         },
-        flags: Flags {
-            overflow: first_flag(flags),
-            collision: second_flag(flags),
-        },
+        flags: flags_of(one_at(bytes, FLAGS)),
         timing: Timing {
             line: two_at(bytes, LINE),
             counter: one_at(bytes, COUNTER),

@@ -4,7 +4,7 @@ use super::{names, Before, Tally};
 use crate::planes::{self, Dot, Plane, View};
 use crate::replay::Machine;
 use crate::sprites::{self, Kept, Walk};
-use crate::state::{State, Vram};
+use crate::state::State;
 
 const FRONTS: [&str; 7] = [
     "front: high sprite",
@@ -46,7 +46,6 @@ const RULES: &[&str] = &[
     "solid pixels meet beside the screen alone",
     "flag set before stays",
     "masked sprite",
-    "first sprite masks",
     "mask off this line ignored",
     "sprite cut short by used-up pixels",
     "sprite cut short and flipped across",
@@ -92,21 +91,17 @@ pub fn rules() -> Vec<String> {
 
 pub fn count(tally: &mut Tally, before: &Before, after: &Machine) {
     let machine = &before.machine;
-    let Ok(vram) = <&Vram>::try_from(machine.vram.lent()) else {
-        return;
-    };
-    let view = View { state: &machine.state, vram, line: before.command.c as usize };
-    if machine.state.registers[1] & 0x40 == 0 {
+    let Some(view) = before.shown() else {
         tally.meet("blanked line");
         return;
-    }
+    };
     tally.meet_if(machine.state.running(), "line while DMA runs");
     shape(tally, &view);
     windows(tally, &view);
     let walk = sprites::walk(&view);
     walked(tally, &view, &walk);
-    for (place, kept) in walk.kept.iter().enumerate() {
-        kept_sprite(tally, &view, kept, place);
+    for kept in &walk.kept {
+        kept_sprite(tally, &view, kept);
     }
     let (dots, collision) = sprites::layer(&view, &walk);
     let beside = !collision && meet_beside(&view, &walk);
@@ -170,8 +165,6 @@ fn walked(tally: &mut Tally, view: &View, walk: &Walk) {
         let just = last == sprites::table_limit(view);
         tally.meet_if(just, "walk ends at a link just too great");
     }
-    let masks = walk.kept.first().is_some_and(|kept| kept.masked);
-    tally.meet_if(masks, "first sprite masks");
     let mut seen = Vec::new();
     for number in numbers(view, walk) {
         tally.meet_if(seen.contains(&number), "sprite met twice");
@@ -226,7 +219,7 @@ fn highest_plane(tally: &mut Tally, view: &View, plane: Plane) {
 }
 
 /// The sprites visited, each with its number.
-fn numbers(view: &View, walk: &Walk) -> Vec<(usize, sprites::Sprite)> {
+pub fn numbers(view: &View, walk: &Walk) -> Vec<(usize, sprites::Sprite)> {
     let mut list = Vec::new();
     let mut number = 0;
     for _ in 0..walk.visits {
@@ -241,13 +234,13 @@ fn last_link(view: &View, walk: &Walk) -> Option<usize> {
     numbers(view, walk).last().map(|(_, sprite)| sprite.link)
 }
 
-fn kept_sprite(tally: &mut Tally, view: &View, kept: &Kept, place: usize) {
+fn kept_sprite(tally: &mut Tally, view: &View, kept: &Kept) {
     let sprite = &kept.sprite;
     let wide = 8 * sprite.cells_wide;
     let right = sprite.x + wide;
     let edge = 128 + view.width();
     let short = kept.columns < wide;
-    tally.meet_if(kept.masked && place > 0, "masked sprite");
+    tally.meet_if(kept.masked, "masked sprite");
     let cut = short && kept.columns > 0;
     tally.meet_if(cut, "sprite cut short by used-up pixels");
     tally.meet_if(cut && sprite.cell.flip_h, "sprite cut short and flipped across");

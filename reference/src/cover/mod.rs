@@ -1,26 +1,30 @@
 //! Which answers and rules streams meet, and which they never meet.
 //! The counts come from looking at each call from outside, before and after it; for the sprite
-//! flags, for cut runs and for frames also from what the calls before it did.
+//! flags, for used up, for cut runs and for frames also from what the calls before it did.
 
 mod cuts;
 mod flags;
 mod frames;
 mod lines;
+mod masking;
 mod ports;
 mod refused;
 mod refused_timing;
 mod runs;
 mod timing;
+mod used_up;
 
 use std::collections::BTreeMap;
 
 use crate::answer::Answer;
 use crate::check::number_in;
+use crate::planes::View;
 use crate::replay::{Command, Machine};
 use crate::tape::{Record, RECORD_BYTES};
 use cuts::Cuts;
 use flags::Flags;
 use frames::Frames;
+use used_up::UsedUp;
 
 /// The answers that each op may give (definition, Numbers a call may answer).
 const ANSWERS: [(u8, &[Answer]); 16] = [
@@ -57,11 +61,12 @@ impl Tally {
             }
         }
         let calls = (1..=9).chain([13, 14]).map(recorded).collect();
-        let one_call = [calls, ports::rules(), runs::rules(), lines::rules(), refused::rules()];
+        let one_call = [calls, ports::rules(), runs::rules(), refused::rules()];
+        let of_lines = [lines::rules(), masking::rules(), used_up::rules()];
         let of_timing = [timing::rules(), refused_timing::rules()];
         let more_calls = [flags::rules(), cuts::rules(), frames::rules()];
-        for rule in [one_call.concat(), of_timing.concat(), more_calls.concat()].concat() {
-            tally.rules.insert(rule, 0);
+        for list in [&one_call[..], &of_lines, &of_timing, &more_calls] {
+            tally.rules.extend(list.concat().into_iter().map(|rule| (rule, 0)));
         }
         tally
     }
@@ -90,6 +95,7 @@ impl Tally {
                 past.flags.set_up(command);
                 past.cuts.set_up();
                 past.frames.set_up(command);
+                past.used_up.set_up(command);
             }
         }
     }
@@ -102,6 +108,7 @@ impl Tally {
         past.flags.count(self, &before, machine, number);
         past.cuts.count(self, &before, machine, number);
         past.frames.count(self, &before, machine, number);
+        past.used_up.count(self, &before, machine, number);
         if number != 0 {
             refused::count(self, &before, number);
             refused_timing::count(self, &before, number);
@@ -110,7 +117,10 @@ impl Tally {
         match command.op {
             1..=6 | 9 | 12 => ports::count(self, &before),
             7 => runs::count_run(self, &before),
-            8 => lines::count(self, &before, machine),
+            8 => {
+                lines::count(self, &before, machine);
+                masking::count(self, &before);
+            }
             10 => runs::count_back(self, &before, machine),
             11 => lines::count_row(self, &before),
             _ => (),
@@ -154,6 +164,7 @@ struct Past {
     flags: Flags,
     cuts: Cuts,
     frames: Frames,
+    used_up: UsedUp,
 }
 
 /// The machine as a call found it, and the call.
@@ -168,6 +179,18 @@ impl Before {
         self.machine.recorded && self.command.recordable()
     }
 
+    /// What a line is drawn from.
+    pub fn view(&self) -> Option<View<'_>> {
+        let (state, line) = (&self.machine.state, self.command.c as usize);
+        let vram = self.machine.vram.lent().try_into().ok()?;
+        Some(View { state, vram, line })
+    }
+
+    /// The same, unless the line is blanked.
+    pub fn shown(&self) -> Option<View<'_>> {
+        self.view().filter(|view| view.state.registers[1] & 0x40 != 0)
+    }
+
     /// A record of the tape, the lowest one being number 0.
     pub fn record(&self, number: u32) -> Option<Record> {
         let at = RECORD_BYTES * number as usize;
@@ -178,6 +201,16 @@ impl Before {
 
 fn recorded(op: u8) -> String {
     format!("recorded form of op {op}")
+}
+
+/// A rule that is met at a width of its own.
+fn at_width(rule: &str, width: usize) -> String {
+    format!("{rule}, width {width}")
+}
+
+/// Turns a list of names into rules for both widths.
+fn at_both_widths(list: &[&str]) -> Vec<String> {
+    list.iter().flat_map(|rule| [320, 256].map(|width| at_width(rule, width))).collect()
 }
 
 /// Turns a list of names into rules.
@@ -193,8 +226,13 @@ mod tests {
     /// Which of the rules these commands meet: op, a, c.
     pub fn met_of(rules: Vec<String>, commands: &[(u8, u8, u32)]) -> Vec<String> {
         let command = |(op, a, c): &(u8, u8, u32)| Command { op: *op, a: *a, b: 0, c: *c };
+        met_by(rules, &commands.iter().map(command).collect::<Vec<_>>())
+    }
+
+    /// Which of the rules these commands meet, in the order of the rules.
+    pub fn met_by(rules: Vec<String>, commands: &[Command]) -> Vec<String> {
         let mut tally = Tally::new();
-        tally.follow(&commands.iter().map(command).collect::<Vec<_>>());
+        tally.follow(commands);
         let never = tally.never();
         rules.into_iter().filter(|rule| !never.contains(rule)).collect()
     }

@@ -91,6 +91,11 @@ const RULES: &[&str] = &[
     "bad record: one unit above the most, else good",
     "bad record: version 1, else good",
     "bad record: version 1 as it was, without timing",
+    "bad record: version 2, else good",
+    "bad record: version 2 as it was, without used up",
+    "bad record: version 4, else good",
+    "bad record: 8 for the flags, else good",
+    "bad record: more than 8 for the flags, else good",
     "bad record: line 262, else good",
     "bad record: 4 for vertical and horizontal, else good",
 ];
@@ -295,7 +300,8 @@ fn bad_record(tally: &mut Tally, before: &Before) {
             tally.meet_if(number > 1, "bad record: a deeper one");
             let over = record_one_unit_over(record);
             tally.meet_if(over, "bad record: one unit above the most, else good");
-            bad_timing(tally, &record);
+            bad_version(tally, &record);
+            bad_field(tally, &record);
             bad_part(tally, record);
             return;
         }
@@ -309,23 +315,39 @@ fn record_one_unit_over(record: Record) -> bool {
     remaining_of(&record) == UNITS_MOST + 1 && good_record(&mended)
 }
 
-/// What version 2 of the records is for: a record that is good but for one of these.
-fn bad_timing(tally: &mut Tally, record: &Record) {
-    let but = |at: usize, bytes: &[u8]| {
-        let mut mended = *record;
-        mended[at..at + bytes.len()].copy_from_slice(bytes);
-        good_record(&mended)
-    };
-    let old = record[0] == 1 && but(0, &[VERSION]);
-    tally.meet_if(old, "bad record: version 1, else good");
+/// Would a record be good with these bytes in it?
+fn good_but(record: &Record, at: usize, bytes: &[u8]) -> bool {
+    let mut mended = *record;
+    mended[at..at + bytes.len()].copy_from_slice(bytes);
+    good_record(&mended)
+}
+
+/// Records of other versions, which hold what a record of version 3 may hold, or no more than what
+/// they held as versions 1 and 2.
+fn bad_version(tally: &mut Tally, record: &Record) {
+    let version = |number: u8| record[0] == number && good_but(record, 0, &[VERSION]);
     let untimed = record[21..].iter().all(|byte| *byte == 0);
-    tally.meet_if(old && untimed, "bad record: version 1 as it was, without timing");
-    let line = line_of(record) == 262 && but(21, &[0, 0]);
+    let without_used_up = record[20] <= 3;
+    tally.meet_if(version(1), "bad record: version 1, else good");
+    let as_it_was = version(1) && untimed && without_used_up;
+    tally.meet_if(as_it_was, "bad record: version 1 as it was, without timing");
+    tally.meet_if(version(2), "bad record: version 2, else good");
+    let as_it_was = version(2) && without_used_up;
+    tally.meet_if(as_it_was, "bad record: version 2 as it was, without used up");
+    tally.meet_if(version(4), "bad record: version 4, else good");
+}
+
+/// A record that is good but for one field of those that versions 2 and 3 brought.
+fn bad_field(tally: &mut Tally, record: &Record) {
+    let flags = |holds: bool| holds && good_but(record, 20, &[0]);
+    tally.meet_if(flags(record[20] == 8), "bad record: 8 for the flags, else good");
+    tally.meet_if(flags(record[20] > 8), "bad record: more than 8 for the flags, else good");
+    let line = line_of(record) == 262 && good_but(record, 21, &[0, 0]);
     tally.meet_if(line, "bad record: line 262, else good");
-    let waits = record[24] == 4 && but(24, &[0]);
+    let waits = record[24] == 4 && good_but(record, 24, &[0]);
     tally.meet_if(waits, "bad record: 4 for vertical and horizontal, else good");
     for (at, byte) in record.iter().enumerate().skip(25) {
-        tally.meet_if(*byte != 0 && but(at, &[0]), &not_zero(at));
+        tally.meet_if(*byte != 0 && good_but(record, at, &[0]), &not_zero(at));
     }
 }
 

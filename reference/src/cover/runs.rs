@@ -79,7 +79,14 @@ const RULES: &[&str] = &[
 ];
 
 pub fn rules() -> Vec<String> {
-    names(RULES)
+    let mut rules = names(RULES);
+    rules.extend((0..8).map(undone_flags));
+    rules
+}
+
+/// Overflow, collision and used up, as byte 20 of a record has them.
+fn undone_flags(byte: u8) -> String {
+    format!("undone: {byte} for the flags")
 }
 
 pub fn count_run(tally: &mut Tally, before: &Before) {
@@ -245,5 +252,6 @@ fn each_record(tally: &mut Tally, before: &Before) {
         tally.meet_if(head == [4, 0, 23], "undone: register 23");
         let most = remaining_of(&record) == UNITS_MOST;
         tally.meet_if(most, "undone: the most units remaining");
+        tally.meet(&undone_flags(record[20]));
     }
 }

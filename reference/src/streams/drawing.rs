@@ -1,6 +1,6 @@
 //! Streams of lines and pattern rows: planes, window, scrolls, sprites in rings and chains.
 
-use super::{Maker, COLLISION, DMA_KIND, OVERFLOW, REGISTER, REMAINING, SCROLL};
+use super::{masking, Maker, COLLISION, DMA_KIND, OVERFLOW, REGISTER, REMAINING, SCROLL, USED_UP};
 use crate::draw;
 use crate::replay::{PIXELS, ROW, VRAM};
 
@@ -14,7 +14,7 @@ pub fn fill(maker: &mut Maker) {
 
 /// One phrase of drawing.
 pub fn episode(maker: &mut Maker) {
-    match maker.below(28) {
+    match maker.below(30) {
         0..=3 => layout(maker),
         4..=8 => ring(maker),
         9 => chain(maker),
@@ -29,13 +29,14 @@ pub fn episode(maker: &mut Maker) {
         24 => overlapping(maker),
         25 => bad_state(maker),
         26 => highest(maker),
+        27 | 28 => masking::episode(maker),
         _ => (),
     }
     lines(maker);
 }
 
 /// By hand, or by a recorded write so that a book can follow.
-fn set(maker: &mut Maker, register: u16, value: u8) {
+pub fn set(maker: &mut Maker, register: u16, value: u8) {
     if maker.machine.recorded && !maker.machine.state.running() {
         maker.register(register, value);
     } else {
@@ -146,7 +147,7 @@ fn lines(maker: &mut Maker) {
 }
 
 /// Where the sprite table lies for the present registers.
-fn sprite_base(maker: &Maker) -> u32 {
+pub fn sprite_base(maker: &Maker) -> u32 {
     let registers = &maker.machine.state.registers;
     let mask = if registers[12] & 1 != 0 { 0x7E } else { 0x7F };
     u32::from(registers[5] & mask) << 9
@@ -326,11 +327,12 @@ fn blanked(maker: &mut Maker) {
     set(maker, 1, old | 0x40);
 }
 
-/// Flags that are set stay set, whatever a line meets.
+/// Sprite flags that are set stay set, whatever a line meets; used up is made anew by each line.
 fn flags(maker: &mut Maker) {
-    let (overflow, collision) = (maker.below(2), maker.below(2));
-    maker.field(OVERFLOW, 0, overflow);
-    maker.field(COLLISION, 0, collision);
+    for field in [OVERFLOW, COLLISION, USED_UP] {
+        let value = maker.number();
+        maker.field(field, 0, value);
+    }
     lines(maker);
     maker.clear_flags();
 }

@@ -1,6 +1,6 @@
 //! Streams of everything together: plain and recorded calls, drawing, refusals.
 
-use super::{dma, drawing, ports, refusals, tape, timing, Maker};
+use super::{dma, drawing, masking, ports, refusals, tape, timing, Maker, USED_UP};
 use crate::replay::{CARTRIDGE, TAPE, WORK_RAM};
 
 pub fn fill(maker: &mut Maker) {
@@ -15,7 +15,7 @@ pub fn fill(maker: &mut Maker) {
 }
 
 fn episode(maker: &mut Maker) {
-    match maker.below(29) {
+    match maker.below(30) {
         0..=3 => ports::episode(maker),
         4..=6 => tape::episode(maker),
         7..=13 => drawing_episode(maker),
@@ -35,6 +35,7 @@ fn episode(maker: &mut Maker) {
         21 => ports::by_hand(maker),
         22 => brim(maker),
         23..=25 => timing::episode(maker),
+        26 => masking::episode(maker),
         _ => {
             let steps = maker.below(maker.machine.count.min(40) + 1);
             maker.back(steps);
@@ -89,10 +90,13 @@ fn one_off(maker: &mut Maker) {
     drawing::scene(maker);
 }
 
-/// A line, a frame and the timing on a tape with no room, and with a count above the capacity.
+/// A line, a frame and the timing on a tape with no room, and with a count above the capacity; none
+/// of them clears used up.
 fn brim(maker: &mut Maker) {
     let was = maker.machine.tape.length as u32;
     maker.recorded(true);
+    let used_up = maker.number();
+    maker.field(USED_UP, 0, used_up);
     let full = maker.machine.count.min(4_096) * 32;
     maker.length(TAPE, full);
     maker.line(10);

@@ -3,6 +3,7 @@
 
 pub mod dma;
 mod drawing;
+mod masking;
 mod mix;
 mod ports;
 mod refusals;
@@ -238,6 +239,7 @@ pub const LINE: u8 = 13;
 pub const COUNTER: u8 = 14;
 pub const VERTICAL: u8 = 15;
 pub const HORIZONTAL: u8 = 16;
+pub const USED_UP: u8 = 17;
 
 /// The set-up commands, by name.
 impl Maker {
@@ -292,14 +294,17 @@ impl Maker {
         }
     }
 
-    /// Sets one sprite flag or both by hand.
+    /// Sets one sprite flag or both by hand, and perhaps used up.
     pub fn raise_flags(&mut self) {
         let (overflow, collision) = self.pick(&[(1, 0), (0, 1), (1, 1)]);
         self.field(OVERFLOW, 0, overflow);
         self.field(COLLISION, 0, collision);
+        let used_up = self.number();
+        self.field(USED_UP, 0, used_up);
     }
 
-    /// Clears the sprite flags by a new frame or a status read; another status read shows it.
+    /// Clears the sprite flags by a new frame or a status read; another status read shows it. Only
+    /// the new frame clears used up.
     pub fn clear_flags(&mut self) {
         if self.once_in(2) {
             self.frame();

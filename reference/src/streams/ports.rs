@@ -1,6 +1,6 @@
 //! Streams of port accesses: registers, halves, data writes and reads, status, new frames.
 
-use super::{Maker, CODE, COLLISION, COLOUR, OVERFLOW, PAL, PENDING, REGISTER, SCROLL};
+use super::{Maker, CODE, COLLISION, COLOUR, OVERFLOW, PAL, PENDING, REGISTER, SCROLL, USED_UP};
 use crate::replay::VRAM;
 
 pub fn fill(maker: &mut Maker) {
@@ -207,11 +207,12 @@ fn registers(maker: &mut Maker) {
 pub fn by_hand(maker: &mut Maker) {
     match maker.below(8) {
         0 => {
-            for field in [OVERFLOW, COLLISION, PAL] {
+            for field in [OVERFLOW, COLLISION, PAL, USED_UP] {
                 let value = maker.below(2);
                 maker.field(field, 0, value);
             }
             maker.clear_flags();
+            maker.digests();
         }
         1 => {
             let (word, other) = (maker.word(), maker.byte());

@@ -1,8 +1,8 @@
 //! Streams of plain calls on states and buffers at the edge of GOOD, and just past it.
 
 use super::{
-    timing, Maker, ADDRESS, CODE, COLOUR, DMA_KIND, FILL_BYTE, LINE, PENDING, REGISTER, REMAINING,
-    SCROLL, SOURCE,
+    masking, timing, Maker, ADDRESS, CODE, COLOUR, DMA_KIND, FILL_BYTE, LINE, PENDING, REGISTER,
+    REMAINING, SCROLL, SOURCE, USED_UP,
 };
 use crate::replay::{CARTRIDGE, VRAM, WORK_RAM};
 use crate::state::{COPY, FILL, TRANSFER, UNITS_MOST};
@@ -15,6 +15,9 @@ pub fn fill(maker: &mut Maker) {
         round(maker);
         if maker.once_in(8) {
             refused_read(maker);
+        }
+        if maker.once_in(8) {
+            refused_lines(maker);
         }
     }
 }
@@ -46,6 +49,20 @@ fn refused_read(maker: &mut Maker) {
     }
     maker.status();
     maker.status();
+}
+
+/// Refused lines leave used up, and the digests after each of them show it. A blanked line that is
+/// done clears it.
+fn refused_lines(maker: &mut Maker) {
+    maker.field(USED_UP, 0, 1);
+    for _ in 0..2 {
+        masking::refused(maker);
+    }
+    if maker.once_in(2) {
+        maker.field(REGISTER, 1, 0x04);
+        maker.line(223);
+    }
+    maker.fresh(false);
 }
 
 /// A good state of any DMA kind, with values at the ends of their ranges.

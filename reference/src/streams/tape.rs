@@ -1,7 +1,9 @@
 //! Streams of recorded calls and step backs: inside runs, to the start, past the start,
 //! on full and short tapes, over spoilt records.
 
-use super::{dma, ports, refusals, timing, Maker, COLLISION, OVERFLOW, PAL, PENDING};
+use super::{
+    dma, masking, ports, refusals, timing, Maker, COLLISION, OVERFLOW, PAL, PENDING, USED_UP,
+};
 use crate::replay::{CARTRIDGE, TAPE, VRAM, WORK_RAM};
 use crate::state::UNITS_MOST;
 use crate::tape::RECORD_BYTES;
@@ -10,7 +12,7 @@ pub const WHOLE_TAPE: u32 = 131_072;
 
 pub fn fill(maker: &mut Maker) {
     maker.recorded(true);
-    for field in [OVERFLOW, COLLISION, PAL] {
+    for field in [OVERFLOW, COLLISION, PAL, USED_UP] {
         let value = maker.below(2);
         maker.field(field, 0, value);
     }
@@ -28,7 +30,7 @@ pub fn fill(maker: &mut Maker) {
 
 /// One phrase of recorded calls.
 pub fn episode(maker: &mut Maker) {
-    match maker.below(37) {
+    match maker.below(38) {
         0..=8 => ports::episode(maker),
         9..=11 => dma::transfer(maker),
         12..=14 => dma::fill_dma(maker),
@@ -51,6 +53,7 @@ pub fn episode(maker: &mut Maker) {
         31 => first_of_the_longest(maker),
         32 => flagged_reads(maker),
         33..=35 => timing::there_and_back(maker),
+        36 => masking::episode(maker),
         _ => maker.back(maker.machine.count),
     }
     if maker.once_in(3) {
@@ -73,6 +76,25 @@ pub fn back(maker: &mut Maker) {
 
 pub fn capacity(maker: &Maker) -> u32 {
     (maker.machine.tape.length / RECORD_BYTES) as u32
+}
+
+/// A step back over the record on top, changed by hand in one of these ways; false if the tape has
+/// no such record.
+pub fn poked_back(maker: &mut Maker, pokes: &[&[(u32, u8)]]) -> bool {
+    let count = maker.machine.count;
+    if count == 0 || count > capacity(maker) {
+        return false;
+    }
+    let at = RECORD_BYTES as u32 * (count - 1);
+    for (byte, value) in maker.pick(pokes) {
+        maker.poke(TAPE, at + byte, *value);
+    }
+    maker.back(1);
+    // A bad record would bar the way back for good.
+    if maker.machine.count == count {
+        maker.count(count - 1);
+    }
+    true
 }
 
 /// Back to the start, by hand if a record is bad.
@@ -148,10 +170,11 @@ fn some_records(maker: &mut Maker) -> Option<u32> {
 }
 
 /// Bytes of a record with values at the edge of their range or just past it.
-const BLOTS: [(u32, u8); 39] = [
+const BLOTS: [(u32, u8); 42] = [
     (0, 0),
     (0, 1),
-    (0, 3),
+    (0, 2),
+    (0, 4),
     (1, 1),
     (2, 31),
     (2, 33),
@@ -180,6 +203,8 @@ const BLOTS: [(u32, u8); 39] = [
     (19, 1),
     (20, 3),
     (20, 4),
+    (20, 7),
+    (20, 8),
     (21, 1),
     (21, 2),
     (22, 255),

@@ -1,9 +1,10 @@
 //! Streams of frames: lines that begin, levels offered and acknowledged, the V counter and the
 //! status, with the registers of the interrupts changed between frames and inside them.
 
-use super::{dma, refusals, tape, Maker, COUNTER, HORIZONTAL, LINE, PAL, REGISTER, VERTICAL};
+use super::{
+    dma, refusals, tape, Maker, COUNTER, HORIZONTAL, LINE, PAL, REGISTER, USED_UP, VERTICAL,
+};
 use crate::replay::{CARTRIDGE, TAPE, VRAM, WORK_RAM};
-use crate::tape::RECORD_BYTES;
 use crate::timing;
 
 /// So many records have to fit before a phrase, or the tape is rewound.
@@ -189,11 +190,12 @@ pub fn jump(maker: &mut Maker) {
     }
 }
 
-/// Vertical and horizontal by hand.
+/// Vertical and horizontal by hand, and used up, which the timing does not ask for.
 fn waiting(maker: &mut Maker) {
-    let (vertical, horizontal) = (maker.number(), maker.number());
-    maker.field(VERTICAL, 0, vertical);
-    maker.field(HORIZONTAL, 0, horizontal);
+    for field in [VERTICAL, HORIZONTAL, USED_UP] {
+        let value = maker.number();
+        maker.field(field, 0, value);
+    }
 }
 
 /// A few lines from an edge on. The counter is shown by the digests alone, so they are asked for.
@@ -318,11 +320,13 @@ fn over_count(maker: &mut Maker) {
     maker.recorded(recorded);
 }
 
-/// Bytes for the record of a line: of version 1, and its timing at its edges and just past them.
-const POKES: [&[(u32, u8)]; 19] = [
+/// Bytes for the record of a line: of other versions, and its timing at its edges and just past
+/// them.
+const POKES: [&[(u32, u8)]; 20] = [
     &[(0, 1)],
-    &[(0, 1), (21, 0), (22, 0), (23, 0), (24, 0)],
-    &[(0, 3)],
+    &[(0, 1), (20, 0), (21, 0), (22, 0), (23, 0), (24, 0)],
+    &[(0, 2)],
+    &[(0, 4)],
     &[(21, 1), (22, 5)],
     &[(21, 1), (22, 6)],
     &[(21, 0xFF), (22, 0xFF)],
@@ -345,18 +349,8 @@ const POKES: [&[(u32, u8)]; 19] = [
 fn poked_record(maker: &mut Maker) {
     record(maker);
     maker.begins();
-    let count = maker.machine.count;
-    if count == 0 {
+    if !tape::poked_back(maker, &POKES) {
         return;
-    }
-    let at = RECORD_BYTES as u32 * (count - 1);
-    for (byte, value) in maker.pick(&POKES) {
-        maker.poke(TAPE, at + byte, *value);
-    }
-    maker.back(1);
-    // A bad record would bar the way back for good.
-    if maker.machine.count == count {
-        maker.count(count - 1);
     }
     look(maker);
     maker.begins();

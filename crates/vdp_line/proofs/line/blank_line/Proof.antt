@@ -8,7 +8,8 @@ use Rattle.vdp_line.proofs.Made.{made-blank}
 use Rattle.vdp_line.specs.Layout.{wide, backdrop}
 use Rattle.vdp_line.specs.Line.{lineOutcome}
 use Rattle.vdp_state.specs.Answer.{done}
-use Rattle.vdp_state.specs.State.{chip}
+use Rattle.vdp_state.specs.State.{chip, withControl}
+use Rattle.vdp_state.specs.declared.state.Control.{Control}
 use borrow.Author.Needs.{needs}
 use mathlib.Core.List.{List}
 use mathlib.Core.Path.{ap, ap₂, _∙_}
@@ -20,11 +21,11 @@ blank-columns-requires : tie.Need-blank-columns-requires
 blank-columns-requires c κs = omega (arith, c .before .before .width-of .ensures, width-small (c .before .before .before .wide .result), c .before .before .before .before .before .before .pre .1)
 
 returns : tie.Need-returns
-returns c = let m = c .before .before in
+returns c = let m = c .before .before .before in
     let w = m .before .before .before in
     let start = w .before .before .before .before in
     let a = start .args in
-    ap (lineOutcome (done 0 (a .s)))
+    ap₂ (λ (k : Control) (px : List ℕ). lineOutcome (done 0 (withControl (a .s) k)) px) (c .blanked .ensures)
     (m .blank-columns .ensures
     ∙ ap₂ (λ (n b : ℕ). painted (λ y _. b) 0 n (a .pixels .now)) (w .width-of .ensures ∙ ap widthOf (w .before .wide .ensures)) (m .before .before .backdrop .ensures)
     ∙ painted-all (λ y. backdrop (a .s)) (widthOf (wide (a .s))) (a .pixels .now) (omega (arith, width-small (wide (a .s)), start .pre .1)))
@@ -38,5 +39,6 @@ blank-line-spec =
     (λ c κs. search needs)
     (λ c κs. search needs)
     blank-columns-requires
+    (λ c κs. search needs)
     (λ c. search needs)
     returns)

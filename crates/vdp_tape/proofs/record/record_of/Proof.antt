@@ -1,8 +1,10 @@
 -- The bytes of the definition, by what the parts ensure.
 use borrow.Author.Needs.{needs}
+use mathlib.Core.Bool.{false}
+use mathlib.Core.List.{[], _∷_}
 use native.Mathlib.Omega.{arith}
-use Rattle.vdp_tape.proofs.Records.{one-byte, kind-fits, flag-bit-fits, pair-fits}
-use Rattle.vdp_tape.specs.Record.{flagBit, flagPair, keptOf}
+use Rattle.vdp_tape.proofs.Records.{one-byte, kind-fits, flag-bit-fits, flags-fit}
+use Rattle.vdp_tape.specs.Record.{flagBit, flagByte, keptOf}
 use Rattle.vdp_tape.proofs.record.record_of.Statement.{statement}
 use Rattle.vdp_tape.proofs.record.record_of.Tie as tie
 
@@ -14,17 +16,17 @@ returns c =
     let k = t .control in
     simp (
       f .before .before .before .before .kept-of .ensures,
-      f .before .before .flag-bit .ensures,
-      f .before .flag-pair .ensures,
-      f .flag-pair2 .ensures,
+      f .before .before .flag-bit .ensures .0,
+      f .before .flag-byte .ensures,
+      f .flag-byte2 .ensures,
       one-byte (keptOf (t .store) .kind) (kind-fits (t .store)),
       one-byte (k .port .code) (omega (arith, start .good)),
       one-byte (flagBit (k .port .pending)) (flag-bit-fits (k .port .pending) .0),
       one-byte (k .dma .kind) (omega (arith, start .good)),
       one-byte (k .dma .fill) (omega (arith, start .good)),
-      one-byte (flagPair (k .flags .overflow) (k .flags .collision)) (pair-fits (k .flags .overflow) (k .flags .collision) .fits),
+      one-byte (flagByte (k .flags .overflow ∷ k .flags .collision ∷ k .flags .«used_up» ∷ [])) (flags-fit (k .flags .overflow) (k .flags .collision) (k .flags .«used_up»)),
       one-byte (k .timing .counter) (omega (arith, start .good)),
-      one-byte (flagPair (k .timing .vertical) (k .timing .horizontal)) (pair-fits (k .timing .vertical) (k .timing .horizontal) .fits),
+      one-byte (flagByte (k .timing .vertical ∷ k .timing .horizontal ∷ [])) (flags-fit (k .timing .vertical) (k .timing .horizontal) false),
     )
 
 pub record-of-spec : {M : Type 1} → statement M
