@@ -66,8 +66,8 @@ mixed c line dots x = mix (backdrop (c .state)) (dotB c line x) (dotA c line x) 
 abbrev pub drawn : State → (ℕ → ℕ) → List ℕ → List ℕ
 drawn s pixel pixels = tabulate pixel (widthOf (wide s)) ++ drop (widthOf (wide s)) pixels
 
--- "A line sets overflow or collision where it meets them and never clears them. It sets used up if .., and clears it if
--- not."
+-- "A line sets overflow or collision where it meets them and never clears them. It sets used up if [..], and clears it
+-- if not."
 abbrev pub flagged : Control → SpriteLine → Control
 flagged k found =
     withFlags k
