@@ -1,5 +1,5 @@
-/* Sets up a small scene through the ports, draws its 224 lines and writes them to standard output as a picture in the
- * PPM form. */
+/* Sets up a small scene through the ports, at dusk by shadow and highlight, draws its 224 lines and writes them to
+ * standard output as a picture in the PPM form. */
 #include <stdio.h>
 #include <stdlib.h>
 
@@ -17,8 +17,10 @@ enum { TO_VRAM = 1, TO_COLOURS = 3, TO_SCROLLS = 5 };
 /* The upper bits of a cell: in front, flipped down, flipped across, and the palette of each layer. */
 enum { HIGH = 0x8000, DOWN = 0x1000, ACROSS = 0x0800, SKY = 0x0000, GROUND = 0x2000, BAR = 0x4000, FLYING = 0x6000 };
 
-/* Pattern names: those of `drawn` below, the letters, a fish of 2 x 2 cells and a balloon of 4 x 4. */
+/* Pattern names: those of `drawn` below, the letters, a fish of 2 x 2 cells, a balloon of 4 x 4, and discs of 4 x 4 of
+ * the colours that darken and lighten what is behind them. */
 enum { CLEAR, SUN, SLOPE, ROCK, CLOUD, GRASS, BRICK, PILLAR, PLAIN, LETTERS, FISH = LETTERS + 9, BALLOON = FISH + 4 };
+enum { DARK = BALLOON + 16, LIGHT = DARK + 16 };
 
 /* A digit for each pixel, a point where it is clear; the sun is a quarter, cloud and pillar are halves. */
 static const char *const drawn[LETTERS][8] = {
@@ -78,12 +80,20 @@ static void write_word(unsigned word)
     done(kuthbareen_data_write(&chip, vram, sizeof vram, (uint16_t)word));
 }
 
-/* A row of a pattern from eight characters: digits, or points for clear pixels. */
+/* A pixel from its character: a digit, E or F, or a point if it is clear. */
+static unsigned pixel_of(char c)
+{
+    if (c == '.')
+        return 0;
+    return (unsigned)(c < 'A' ? c - '0' : c - 'A' + 10);
+}
+
+/* A row of a pattern from eight characters. */
 static void write_row(const char *row)
 {
     unsigned pixels = 0, i;
     for (i = 0; i < 8; i++)
-        pixels = pixels << 4 | (row[i] == '.' ? 0 : (unsigned)(row[i] - '0'));
+        pixels = pixels << 4 | pixel_of(row[i]);
     write_word(pixels >> 16);
     write_word(pixels & 0xFFFF);
 }
@@ -101,20 +111,44 @@ static char balloon(int x, int y)
     return '.';
 }
 
+/* The characters of the two discs. */
+static char disc(int x, int y, char inside)
+{
+    return (2 * x - 31) * (2 * x - 31) + (2 * y - 31) * (2 * y - 31) < 31 * 31 ? inside : '.';
+}
+
+static char dark(int x, int y)
+{
+    return disc(x, y, 'E');
+}
+
+static char light(int x, int y)
+{
+    return disc(x, y, 'F');
+}
+
 /* The names of a sprite run down its columns, so its cells are written in that order. */
-static void write_sprite_patterns(void)
+static void write_large(char (*at)(int x, int y))
 {
     int cell, x, y;
     char row[8];
-    for (cell = 0; cell < 4; cell++)
-        for (y = 0; y < 8; y++)
-            write_row(fish[cell % 2 * 8 + y] + cell / 2 * 8);
     for (cell = 0; cell < 16; cell++)
         for (y = 0; y < 8; y++) {
             for (x = 0; x < 8; x++)
-                row[x] = balloon(cell / 4 * 8 + x, cell % 4 * 8 + y);
+                row[x] = at(cell / 4 * 8 + x, cell % 4 * 8 + y);
             write_row(row);
         }
+}
+
+static void write_sprite_patterns(void)
+{
+    int cell, y;
+    for (cell = 0; cell < 4; cell++)
+        for (y = 0; y < 8; y++)
+            write_row(fish[cell % 2 * 8 + y] + cell / 2 * 8);
+    write_large(balloon);
+    write_large(dark);
+    write_large(light);
 }
 
 static void write_patterns(void)
@@ -217,7 +251,8 @@ static void write_window(void)
 }
 
 /* Sprites in the order of their links: place on the screen, size, cell. Fishes with each flip; balloons under the bar,
- * behind a cloud and a pillar, before a pillar, and over the right edge. */
+ * behind a cloud and a pillar, before a pillar, and over the right edge. Light on a pillar, on the sun and on the
+ * ground, a shadow on the bar and on the other pillar; a low light behind a pillar does not show on it. */
 static void write_sprites(void)
 {
     static const struct {
@@ -234,6 +269,12 @@ static void write_sprites(void)
         {236, 130, 15, HIGH | FLYING | BALLOON},
         {300, 60, 15, FLYING | BALLOON},
         {244, 150, 5, HIGH | FLYING | FISH},
+        {64, 108, 15, HIGH | FLYING | LIGHT},
+        {258, 30, 15, FLYING | LIGHT},
+        {150, 172, 15, FLYING | LIGHT},
+        {224, 104, 15, FLYING | LIGHT},
+        {60, -4, 15, HIGH | FLYING | DARK},
+        {232, 164, 15, HIGH | FLYING | DARK},
     };
     unsigned i, count = sizeof list / sizeof list[0];
     command(&chip, TO_VRAM, SPRITES);
@@ -268,7 +309,7 @@ static void set_up(void)
     set_register(4, PLANE_B >> 13);
     set_register(5, SPRITES >> 9);
     set_register(11, 0x03);
-    set_register(12, 0x81);
+    set_register(12, 0x89);
     set_register(13, SCROLLS >> 10);
     set_register(15, 2);
     set_register(16, 0x01);
@@ -282,13 +323,24 @@ static void set_up(void)
     write_scrolls();
 }
 
-/* A pixel as red, green and blue; a part of 0 to 7 becomes a byte. */
-static void put_colour(uint8_t index)
+/* A part of 0 to 7 as a byte: as it is at normal intensity, halved at half, halved with the upper half added at double.
+ * This scale is the viewer's, for the eye: the definition does not say how bright half and double are. */
+static void put_part(unsigned part, unsigned intensity)
 {
-    uint32_t parts = kuthbareen_colour_parts(chip.cram[index], chip.registers[0]);
-    putchar((int)((parts & 15) * 255 / 7));
-    putchar((int)((parts >> 4 & 15) * 255 / 7));
-    putchar((int)(parts >> 8) * 255 / 7);
+    unsigned byte = part * 255 / 7;
+    if (intensity != KUTHBAREEN_NORMAL)
+        byte = byte / 2 + (intensity == KUTHBAREEN_DOUBLE ? 128 : 0);
+    putchar((int)byte);
+}
+
+/* A pixel as red, green and blue. */
+static void put_pixel(uint8_t pixel)
+{
+    unsigned intensity = pixel & KUTHBAREEN_INTENSITY;
+    uint32_t parts = kuthbareen_colour_parts(chip.cram[pixel & KUTHBAREEN_INDEX], chip.registers[0]);
+    put_part(parts & 15, intensity);
+    put_part(parts >> 4 & 15, intensity);
+    put_part(parts >> 8, intensity);
 }
 
 int main(void)
@@ -301,7 +353,7 @@ int main(void)
     for (line = 0; line < HEIGHT; line++) {
         done(kuthbareen_line(&chip, vram, sizeof vram, line, pixels, sizeof pixels));
         for (x = 0; x < WIDTH; x++)
-            put_colour(pixels[x]);
+            put_pixel(pixels[x]);
     }
     return fflush(stdout) != 0;
 }

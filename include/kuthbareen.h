@@ -53,6 +53,15 @@ enum { KUTHBAREEN_MOST_UNITS = 65536 };
 /* The lines of a frame, 0 to KUTHBAREEN_LAST_LINE. */
 enum { KUTHBAREEN_LAST_LINE = 261 };
 
+/* A pixel byte is a colour index plus an intensity. Without register 12 bit 3 every intensity is normal. */
+enum {
+    KUTHBAREEN_INDEX = 0x3F,     /* the bits of the colour index */
+    KUTHBAREEN_INTENSITY = 0xC0, /* the bits of the intensity, which are one of the three below */
+    KUTHBAREEN_NORMAL = 0,
+    KUTHBAREEN_HALF = 64,
+    KUTHBAREEN_DOUBLE = 128
+};
+
 /* How many steps a tape of n bytes can hold. */
 #define KUTHBAREEN_TAPE_CAPACITY(n) ((n) / KUTHBAREEN_RECORD_SIZE)
 
@@ -159,9 +168,9 @@ kuthbareen_answer kuthbareen_level_offered(kuthbareen_state *state);
 kuthbareen_answer kuthbareen_run(kuthbareen_state *state, uint8_t *vram, size_t vram_size, const uint8_t *cartridge,
                                  size_t cartridge_size, const uint8_t *ram, size_t ram_size, uint32_t budget);
 
-/* Draws a line of the screen into 320 pixels: a colour index, 0 to 63, for each column of the visible width, which is
- * 320 or 256; the pixels beyond it stay. Sets overflow or collision where the line meets them and clears neither; sets
- * or clears used_up. The result says how many sprites were visited. */
+/* Draws a line of the screen into 320 pixels: a pixel byte for each column of the visible width, which is 320 or 256;
+ * the pixels beyond it stay. Sets overflow or collision where the line meets them and clears neither; sets or clears
+ * used_up. The result says how many sprites were visited. */
 kuthbareen_answer kuthbareen_line(kuthbareen_state *state, const uint8_t *vram, size_t vram_size, uint32_t line,
                                   uint8_t *pixels, size_t pixels_size);
 

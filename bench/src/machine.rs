@@ -134,6 +134,12 @@ pub fn scene(m: &mut Machine) {
     m.control(&[0x8B03, 0x8C81, 0x8D2C, 0x9001, 0x9108, 0x9200]);
 }
 
+// The same scene with register 12 bit 3 set.
+pub fn shadowed_scene(m: &mut Machine) {
+    scene(m);
+    m.control(&[0x8C89]);
+}
+
 // Data writes to VRAM from address 0, step 2.
 pub fn data_writes(m: &mut Machine) {
     m.control(&[0x8F02, 0x4000, 0x0000]);

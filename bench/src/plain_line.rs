@@ -15,6 +15,11 @@ type Dot = u8;
 
 const IN_FRONT: Dot = 0x40;
 
+// What a pixel byte adds to the colour index.
+const NORMAL: u8 = 0;
+const HALF: u8 = 64;
+const DOUBLE: u8 = 128;
+
 fn solid(dot: Dot) -> bool {
     dot & 0x0F != 0
 }
@@ -38,6 +43,7 @@ struct Layout {
     window_columns: Range<usize>,
     sprites: u16,
     backdrop: u8,
+    shadow: bool,
 }
 
 // Draws a line, or answers 1, 5 or 4; the types see to the sizes, and no table passes FFFFh.
@@ -81,7 +87,7 @@ fn not_modelled(state: &State) -> bool {
     registers[0] & 0x09 != 0
         || registers[1] & 0x85 != 0x04
         || (registers[12] & 0x80 == 0) != (registers[12] & 0x01 == 0)
-        || registers[12] & 0x0E != 0
+        || registers[12] & 0x06 != 0
         || high == 2
         || wide == 2
         || cells(high) * cells(wide) > 4096
@@ -115,6 +121,7 @@ fn layout(state: &State, vram: &Memory, line: u16) -> Layout {
         window_columns: window_columns(registers[17], registers[18], line, width),
         sprites: base(5, if wide { 0x7E } else { 0x7F }, 9),
         backdrop: registers[7] & 0x3F,
+        shadow: registers[12] & 0x08 != 0,
     }
 }
 
@@ -259,7 +266,11 @@ fn draw(
             plane_dot(state, vram, layout, &layout.planes[0], x as u16, line)
         };
         let b = plane_dot(state, vram, layout, &layout.planes[1], x as u16, line);
-        *pixel = front([*sprite, a, b], layout.backdrop);
+        *pixel = if layout.shadow {
+            shaded(*sprite, a, b, layout.backdrop)
+        } else {
+            front([*sprite, a, b], layout.backdrop)
+        };
     }
 }
 
@@ -305,4 +316,22 @@ fn front(dots: [Dot; 3], backdrop: u8) -> u8 {
         }
     }
     shown
+}
+
+// What shows, with its intensity: shadow and highlight. A sprite's 3Eh and 3Fh are not drawn.
+fn shaded(sprite: Dot, a: Dot, b: Dot, backdrop: u8) -> u8 {
+    let high = |dot: Dot| dot & IN_FRONT != 0;
+    let hides = |dot: Dot| solid(dot) && high(dot);
+    let behind = if high(a) || high(b) { NORMAL } else { HALF };
+    let planes = front([0, a, b], backdrop);
+    if !solid(sprite) || !high(sprite) && (hides(a) || hides(b)) {
+        return planes + behind;
+    }
+    match sprite & 0x3F {
+        0x3E => planes + HALF,
+        0x3F if behind == HALF => planes,
+        0x3F => planes + DOUBLE,
+        index if high(sprite) || index & 0x0F == 14 => index,
+        index => index + behind,
+    }
 }

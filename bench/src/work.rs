@@ -35,13 +35,8 @@ pub fn all() -> Vec<Work> {
             machine::data_writes_to_colours,
             plain_writes_asking_good,
         ),
-        Work {
-            name: "line",
-            units: LINES as u32,
-            make_ready: machine::scene,
-            ours: our_lines,
-            plain: plain_lines,
-        },
+        lines("line", machine::scene),
+        lines("line with shadow and highlight", machine::shadowed_scene),
         Work {
             name: "recorded data write",
             units: RECORDED_WRITES,
@@ -73,6 +68,16 @@ fn run(name: &'static str, make_ready: fn(&mut Machine)) -> Work {
         make_ready,
         ours: our_run,
         plain: plain_run,
+    }
+}
+
+fn lines(name: &'static str, make_ready: fn(&mut Machine)) -> Work {
+    Work {
+        name,
+        units: LINES as u32,
+        make_ready,
+        ours: our_lines,
+        plain: plain_lines,
     }
 }
 

@@ -1,7 +1,8 @@
 //! Drawing a line: what is not modelled, and the layers put together
-//! (definition, Drawing; notes s14, s17).
+//! (definition, Drawing; notes s14, s16, s17).
 
 use crate::planes::{self, horizontal_scroll, plane_dot, window_dot, Dot, Plane, View};
+use crate::shading;
 use crate::sprites::{self, Walk};
 use crate::state::{State, Vram};
 
@@ -44,7 +45,8 @@ pub fn not_modelled(state: &State) -> Option<&'static str> {
         (set(1, 0x01), "register 1 bit 0"),
         (!set(1, 0x04), "register 1 bit 2 clear"),
         (set(12, 0x80) != set(12, 0x01), "register 12 bits 7 and 0 differ"),
-        (set(12, 0x0E), "register 12 bits 3-1"),
+        (set(12, 0x04), "register 12 bit 2"),
+        (set(12, 0x02), "register 12 bit 1"),
         (planes::cells(registers[16]).is_none(), "plane width code 2"),
         (planes::cells(registers[16] >> 4).is_none(), "plane height code 2"),
         (too_many_cells(state), "over 4,096 cells"),
@@ -73,7 +75,7 @@ fn backdrop(state: &State) -> u8 {
     state.registers[7] & 0x3F
 }
 
-/// A blanked line visits no sprites.
+/// A blanked line visits no sprites, and register 12 bit 3 is not asked.
 fn blank(view: &View) -> Picture {
     Picture {
         pixels: vec![backdrop(view.state); view.width()],
@@ -101,10 +103,20 @@ pub fn mixed(view: &View, walk: &Walk) -> Picture {
             plane_dot(view, Plane::A, scroll_a, x)
         };
         let b = plane_dot(view, Plane::B, scroll_b, x);
-        pixels.push(front(*sprite, a, b).unwrap_or(backdrop(view.state)));
+        pixels.push(pixel_byte(view.state, *sprite, a, b));
     }
     let used_up = sprites::use_up(view, walk);
     Picture { pixels, visits: walk.visits, overflow: walk.overflow, collision, used_up }
+}
+
+/// What a column shows: its colour index, with an intensity where that is asked for.
+fn pixel_byte(state: &State, sprite: Dot, a: Dot, b: Dot) -> u8 {
+    let index = |sprite| front(sprite, a, b).unwrap_or(backdrop(state));
+    if shading::asked(state) {
+        index(shading::drawn(sprite)) + shading::intensity(sprite, a, b)
+    } else {
+        index(sprite)
+    }
 }
 
 /// The frontmost solid pixel: high sprites, A, B, then low sprites, A, B.

@@ -24,6 +24,8 @@ mod flags;
 #[cfg(test)]
 mod frames;
 #[cfg(test)]
+mod intensities;
+#[cfg(test)]
 mod longest;
 #[cfg(test)]
 mod masking;
@@ -31,6 +33,9 @@ mod pattern;
 mod planes;
 mod ports;
 mod replay;
+#[cfg(test)]
+mod shaded_lines;
+mod shading;
 mod sprites;
 mod state;
 mod streams;

@@ -3,7 +3,7 @@ use libc::STDOUT_FILENO;
 use vdp_state::cell::byte_at;
 
 // The most text that is read.
-pub(crate) const TEXT: usize = 32768;
+pub(crate) const TEXT: usize = 65536;
 
 // The next place of the text.
 pub(crate) fn onward(at: usize) -> usize {

@@ -1,7 +1,7 @@
 // Dots (definition, Drawing): what a layer shows on a column, 64 x priority + colour index.
 ghost use mathlib.Core.Path.{_≡_};
 ghost use Prim.Native.Nat.{_<_};
-ghost use Rattle.vdp_draw.specs.Dot.{solid as isSolid, dotOf, flipped as flippedPlace, blockName, blockDot};
+ghost use Rattle.vdp_draw.specs.Dot.{solid as isSolid, high as isHigh, dotOf, flipped as flippedPlace, blockName, blockDot};
 use crate::pattern::pattern_pixel;
 
 // Whether a dot shows: pixel 0 is clear.
@@ -9,6 +9,13 @@ pub fn solid(dot: u8) -> bool
     ensures { λ r. ⌜ r ≡ isSolid dot ⌝ }
 {
     dot % 16 != 0
+}
+
+// Whether a dot is of high priority, solid or clear.
+pub fn high(dot: u8) -> bool
+    ensures { λ r. ⌜ r ≡ isHigh dot ⌝ }
+{
+    64 <= dot
 }
 
 // One of n places, counted from the other end where it is flipped.

@@ -7,7 +7,7 @@ use crate::answer::LentAnswer;
 use vdp_line::line::line as draw;
 use vdp_state::state::State;
 
-// Draws a line: its colour indexes into the pixels, and the visits as the result.
+// Draws a line: its pixel bytes, and the visits as the result.
 #[no_mangle]
 pub extern "C" fn kuthbareen_line(
     s: &mut State,

@@ -226,7 +226,7 @@ pub extern "C" fn kuthbareen_recorded_run(
     }
 }
 
-// Draws a line: its colour indexes into the pixels, and the visits as the result.
+// Draws a line: its pixel bytes, and the visits as the result.
 #[no_mangle]
 pub extern "C" fn kuthbareen_recorded_line(
     s: &mut State,

@@ -13,11 +13,11 @@ use Rattle.vdp_draw.specs.Width.{widthOf}
 use Rattle.vdp_line.proofs.Bounds.{cells-range}
 use Rattle.vdp_line.specs.declared.plane.Row.{Row}
 use Rattle.vdp_line.specs.declared.view.View.{View}
+use Rattle.vdp_line.specs.Intensity.{pixel}
 use Rattle.vdp_line.specs.Layer.{horizontal, rowA, rowB}
-use Rattle.vdp_line.specs.Layout.{bit, wide, backdrop, codeAcross, codeDown}
+use Rattle.vdp_line.specs.Layout.{bit, wide, shadow, backdrop, codeAcross, codeDown}
 use Rattle.vdp_line.specs.Plane.{planeA, planeB, window, windowColumns, rowOf, rowDot, side}
 use Rattle.vdp_line.specs.Line.{mixed}
-use Rattle.vdp_line.specs.Mix.{mix}
 use Rattle.vdp_line.specs.View.{viewOf, scrollWord, rowAAt, rowBAt}
 
 module _ (c : Chip) (line g x : ℕ) (first : 16 * g ≤ x) (last : x < 16 * g + 16) where
@@ -85,11 +85,11 @@ pub whole-groups : (wide : Bool) → (16 * (widthOf wide / 16) ≡ widthOf wide)
 whole-groups true = (refl, omega arith)
 whole-groups false = (refl, omega arith)
 
--- what lies in front on a column, by its group
-abbrev pub front : View → List ℕ → List ℕ → ℕ → List ℕ → ℕ → ℕ → ℕ → ℕ
-front v vsram vram line dots back g y = mix back (rowDot vram (rowBAt v vsram g line) y) (rowDot vram (rowAAt v vsram g line) y) (getD dots y 0)
+-- the pixel byte of a column, by its group
+abbrev pub groupPixel : View → List ℕ → List ℕ → ℕ → List ℕ → Bool → ℕ → ℕ → ℕ → ℕ
+groupPixel v vsram vram line dots shaded back g y = pixel shaded back (rowDot vram (rowBAt v vsram g line) y) (rowDot vram (rowAAt v vsram g line) y) (getD dots y 0)
 
-pub front-is : (c : Chip) (line : ℕ) (dots : List ℕ) (y : ℕ) → front (viewOf c line) (c .state .vsram) (c .vram) line dots (backdrop (c .state)) (y / 16) y ≡ mixed c line dots y
-front-is c line dots y =
-    ap₂ (λ (b a : Row). mix (backdrop (c .state)) (rowDot (c .vram) b y) (rowDot (c .vram) a y) (getD dots y 0))
+pub group-pixel-is : (c : Chip) (line : ℕ) (dots : List ℕ) (y : ℕ) → groupPixel (viewOf c line) (c .state .vsram) (c .vram) line dots (shadow (c .state)) (backdrop (c .state)) (y / 16) y ≡ mixed c line dots y
+group-pixel-is c line dots y =
+    ap₂ (λ (b a : Row). pixel (shadow (c .state)) (backdrop (c .state)) (rowDot (c .vram) b y) (rowDot (c .vram) a y) (getD dots y 0))
     (row-b-here c line (y / 16) y (omega arith) (omega arith)) (row-a-here c line (y / 16) y (omega arith) (omega arith))

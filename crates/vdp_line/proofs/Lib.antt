@@ -4,4 +4,6 @@ pub mod Made
 pub mod Accepted
 pub mod Decided
 pub mod Inside
+pub mod Intensities
 pub mod Bench
+pub mod ShadowBench

@@ -14,6 +14,10 @@ bit s i n = eqb (register s i / 2 ^ n % 2) 1
 abbrev pub wide : State → Bool
 wide s = bit s 12 0
 
+-- "register 12 bit 3": shadow and highlight
+abbrev pub shadow : State → Bool
+shadow s = bit s 12 3
+
 -- "The height is 240 if register 1 bit 3 is set, else 224."
 abbrev pub height : State → ℕ
 height s = cond (bit s 1 3) 240 224

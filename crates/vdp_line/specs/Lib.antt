@@ -1,8 +1,10 @@
 pub mod Bench
 pub mod Inside
+pub mod Intensity
 pub mod Layer
 pub mod Layout
 pub mod Line
 pub mod Mix
 pub mod Plane
+pub mod ShadowBench
 pub mod View

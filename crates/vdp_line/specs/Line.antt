@@ -1,5 +1,6 @@
 -- A line: definition, Drawing and Numbers a call may answer.
 use Prim.Native.Nat.{ℕ, _*_}
+use mathlib.Core.Path.{_≡_}
 use mathlib.Core.Bool.{false, cond, not, _||_, Bool·beq}
 use mathlib.Core.List.{List, [], _∷_, _++_}
 use lib.Dec.{eqb, leb, ltb}
@@ -17,8 +18,9 @@ use Rattle.vdp_draw.specs.Tabulate.{tabulate}
 use Rattle.vdp_draw.specs.Width.{widthOf}
 use Rattle.vdp_sprites.specs.declared.sprite_line.SpriteLine.{SpriteLine}
 use Rattle.vdp_sprites.specs.SpriteLine.{spriteLine}
+use Rattle.vdp_line.specs.Intensity.{pixel}
 use Rattle.vdp_line.specs.Layer.{dotA, dotB}
-use Rattle.vdp_line.specs.Layout.{bit, wide, height, displayed, backdrop, baseSprites, codeAcross, codeDown, cells}
+use Rattle.vdp_line.specs.Layout.{bit, wide, shadow, height, displayed, backdrop, baseSprites, codeAcross, codeDown, cells}
 use Rattle.vdp_line.specs.Mix.{mix}
 
 -- 2: "the pixel buffer is not 320 bytes long"
@@ -37,13 +39,13 @@ abbrev pub mostCells : ℕ
 mostCells = 4096
 
 -- 4: "register 0 bit 0 or bit 3 is set", "register 1 bit 7 or bit 0 is set, or its bit 2 is clear", "register 12 bits 7
--- and 0 differ, or one of its bits 3-1 is set", "register 16 has the code 2 for the width or the height of the planes"
--- or "a plane has more than 4,096 cells"
+-- and 0 differ, or its bit 2 or bit 1 is set", "register 16 has the code 2 for the width or the height of the planes" or
+-- "a plane has more than 4,096 cells"
 abbrev pub notModelled : State → Test
 notModelled s =
     gives 4
     (bit s 0 0 || bit s 0 3 || bit s 1 7 || bit s 1 0 || not (bit s 1 2) || not (Bool·beq (bit s 12 7) (bit s 12 0))
-    || bit s 12 3 || bit s 12 2 || bit s 12 1 || eqb (codeAcross s) 2 || eqb (codeDown s) 2
+    || bit s 12 2 || bit s 12 1 || eqb (codeAcross s) 2 || eqb (codeDown s) 2
     || ltb mostCells (planeCells s))
 
 abbrev pub lineTests : Chip → ℕ → List ℕ → List Test
@@ -58,9 +60,10 @@ abbrev pub spritesOf : Chip → ℕ → SpriteLine
 spritesOf c line =
     spriteLine (c .vram) (baseSprites (c .state)) (wide (c .state)) (c .state .control .flags .«used_up») line
 
--- the colour index on column x of a displayed line, with the sprites' dots
+-- the pixel byte on column x of a displayed line, with the sprites' dots
 abbrev pub mixed : Chip → ℕ → List ℕ → ℕ → ℕ
-mixed c line dots x = mix (backdrop (c .state)) (dotB c line x) (dotA c line x) (getD dots x 0)
+mixed c line dots x =
+    pixel (shadow (c .state)) (backdrop (c .state)) (dotB c line x) (dotA c line x) (getD dots x 0)
 
 -- the columns of the width drawn: "The bytes of the pixel buffer past the width stay as they are."
 abbrev pub drawn : State → (ℕ → ℕ) → List ℕ → List ℕ
@@ -91,6 +94,7 @@ lineStep c n =
 abbrev pub visits : Chip → ℕ → ℕ
 visits c n = cond (displayed (c .state)) (spritesOf c n .visits) 0
 
+-- a blanked line shows "the backdrop at normal intensity", its bare index
 abbrev pub linePixels : Chip → ℕ → List ℕ → List ℕ
 linePixels c n pixels =
     drawn (c .state) (λ x. cond (displayed (c .state)) (mixed c n (spritesOf c n .dots) x) (backdrop (c .state))) pixels
@@ -109,3 +113,11 @@ lineMade c n pixels = lineOutcome (done (visits c n) (after (c .state) (lineStep
 abbrev pub line : Chip → ℕ → List ℕ → LineOutcome
 line c n pixels =
     cond (eqb (lineNumber c n pixels) 0) (lineMade c n pixels) (lineOutcome (refused (lineNumber c n pixels) (c .state)) pixels)
+
+-- the claim: "With register 12 bit 3 clear every intensity is normal, so a pixel byte is the colour index that mixing
+-- gives."
+abbrev pub WithoutShadow : Type 0
+WithoutShadow =
+    (c : Chip) (n : ℕ) (pixels : List ℕ) → shadow (c .state) ≡ false
+    → let front : ℕ → ℕ = λ x. mix (backdrop (c .state)) (dotB c n x) (dotA c n x) (getD (spritesOf c n .dots) x 0) in
+    linePixels c n pixels ≡ drawn (c .state) (λ x. cond (displayed (c .state)) (front x) (backdrop (c .state))) pixels

@@ -5,13 +5,14 @@ ghost use lib.ListN.{length, getD};
 ghost use Rattle.vdp_state.specs.State.{chip};
 ghost use Rattle.vdp_draw.specs.Painted.{painted};
 ghost use Rattle.vdp_draw.specs.Width.{widthOf};
+ghost use Rattle.vdp_line.specs.Intensity.{pixel as pixelOf};
 ghost use Rattle.vdp_line.specs.Layout.{wide as isWide};
 ghost use Rattle.vdp_line.specs.Line.{mixed};
-ghost use Rattle.vdp_line.specs.Mix.{mix as mixOf};
 ghost use Rattle.vdp_line.specs.Plane.{rowDot};
+use crate::intensity::pixel;
 use crate::layout::backdrop;
+use crate::layout::shadow;
 use crate::layout::wide;
-use crate::mix::mix;
 use crate::plane::Row;
 use crate::plane::row_dot;
 use crate::view::row_a;
@@ -24,6 +25,7 @@ use vdp_state::state::State;
 // Writes the columns of a group, where the planes show these rows.
 fn mix_columns(
     vram: &[u8],
+    shadow: bool,
     back: u8,
     b: Row,
     a: Row,
@@ -32,16 +34,17 @@ fn mix_columns(
     end: usize,
     pixels: &mut [u8],
 )
-    requires { ⌜ (0 < b .columns) × (0 < a .columns) × (from ≤ end)
+    requires { ⌜ (back < 64) × (0 < b .columns) × (0 < a .columns) × (from ≤ end)
         × (end ≤ length (now pixels)) × (length (now pixels) ≤ 320) ⌝ }
     ensures { λ _. ⌜ now (pixels .exit)
-        ≡ painted (λ x _. mixOf back (rowDot (now (vram .entry)) b x) (rowDot (now (vram .entry)) a x) (getD (now (dots .entry)) x 0))
+        ≡ painted (λ x _. pixelOf shadow back (rowDot (now (vram .entry)) b x) (rowDot (now (vram .entry)) a x) (getD (now (dots .entry)) x 0))
         from (end - from) (now (pixels .entry)) ⌝ }
 {
     let mut x = from;
     while x < end {
         let column = x as u16;
-        pixels[x] = mix(
+        pixels[x] = pixel(
+            shadow,
             back,
             row_dot(vram, b, column),
             row_dot(vram, a, column),
@@ -60,6 +63,7 @@ pub(crate) fn draw_columns(s: State, vram: &[u8], line: u8, dots: &[u8], pixels:
 {
     let view = view_of(s, vram, line);
     let vsram = s.vsram;
+    let shadow = shadow(s);
     let back = backdrop(s);
     let groups = (width_of(wide(s)) / 16) as u8;
     let mut c: u8 = 0;
@@ -67,7 +71,7 @@ pub(crate) fn draw_columns(s: State, vram: &[u8], line: u8, dots: &[u8], pixels:
         let b = row_b(view, &vsram, c, line);
         let a = row_a(view, &vsram, c, line);
         let from = 16 * (c as usize);
-        mix_columns(vram, back, b, a, dots, from, from + 16, pixels);
+        mix_columns(vram, shadow, back, b, a, dots, from, from + 16, pixels);
         c += 1;
     }
 }

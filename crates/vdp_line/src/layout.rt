@@ -2,7 +2,7 @@
 ghost use mathlib.Core.Path.{_≡_};
 ghost use Prim.Native.Nat.{_/_, _%_, _<_};
 ghost use lib.Dec.{eqb};
-ghost use Rattle.vdp_line.specs.Layout.{wide as isWide, height as heightOf, displayed as isDisplayed, backdrop as backdropOf, baseA, baseB, baseWindow, baseSprites, codeAcross, codeDown, cells as cellsOf, scrollLine, scrollPlace};
+ghost use Rattle.vdp_line.specs.Layout.{wide as isWide, shadow as isShadow, height as heightOf, displayed as isDisplayed, backdrop as backdropOf, baseA, baseB, baseWindow, baseSprites, codeAcross, codeDown, cells as cellsOf, scrollLine, scrollPlace};
 use vdp_state::state::State;
 
 // A bit of a register, by its value.
@@ -17,6 +17,13 @@ pub(crate) fn wide(s: State) -> bool
     ensures { λ r. ⌜ r ≡ isWide s ⌝ }
 {
     bit(s.registers[12], 1)
+}
+
+// Whether shadow and highlight are on.
+pub(crate) fn shadow(s: State) -> bool
+    ensures { λ r. ⌜ r ≡ isShadow s ⌝ }
+{
+    bit(s.registers[12], 8)
 }
 
 pub(crate) fn height(s: State) -> u32

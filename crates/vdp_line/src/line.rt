@@ -86,7 +86,7 @@ fn blank_line(s: State, vram: &[u8], line: u8, pixels: &mut [u8]) -> Answer
     }
 }
 
-// Draws a line: its colour indexes into the pixels, and the visits as the result.
+// Draws a line: its pixel bytes, and the visits as the result.
 pub fn line(s: State, vram: &[u8], line: u32, pixels: &mut [u8]) -> Answer
     ensures { λ r. ⌜ lineOutcome r (now (pixels .exit)) ≡ lineOf (chip s (now (vram .entry))) line (now (pixels .entry)) ⌝ }
 {

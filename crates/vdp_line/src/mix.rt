@@ -1,13 +1,14 @@
 // Mixing (definition, Drawing): what lies in front on a column.
 ghost use mathlib.Core.Path.{_≡_};
 ghost use Rattle.vdp_line.specs.Mix.{inFront, mix as mixed};
+use vdp_draw::dot::high;
 use vdp_draw::dot::solid;
 
 // Whether a dot is solid and of high priority.
-fn in_front(dot: u8) -> bool
+pub(crate) fn in_front(dot: u8) -> bool
     ensures { λ r. ⌜ r ≡ inFront dot ⌝ }
 {
-    solid(dot) & (64 <= dot)
+    solid(dot) & high(dot)
 }
 
 // The colour index that shows, asked from the front.

@@ -39,7 +39,6 @@ fn not_modelled(s: State) -> bool
         | bit(r1, 1)
         | !bit(r1, 4)
         | (bit(r12, 128) != bit(r12, 1))
-        | bit(r12, 8)
         | bit(r12, 4)
         | bit(r12, 2)
         | (code_across(s) == 2)

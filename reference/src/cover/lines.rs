@@ -276,13 +276,17 @@ fn meet_beside(view: &View, walk: &Walk) -> bool {
     false
 }
 
-/// Layers of single sprites, to see which ones share a column.
+/// The layers of single sprites in their order, to see which ones share a column.
+pub fn single_layers(view: &View, walk: &Walk) -> Vec<Vec<Dot>> {
+    let alone = |kept: &Kept| Walk { visits: 1, overflow: false, kept: vec![*kept] };
+    walk.kept.iter().map(|kept| sprites::layer(view, &alone(kept)).0).collect()
+}
+
 fn early_and_late(tally: &mut Tally, view: &View, walk: &Walk) {
     let mut taken = vec![Dot::default(); view.width()];
     let mut kept_out = false;
-    for kept in &walk.kept {
-        let alone = Walk { visits: 1, overflow: false, kept: vec![*kept] };
-        for (place, dot) in taken.iter_mut().zip(sprites::layer(view, &alone).0) {
+    for layer in single_layers(view, walk) {
+        for (place, dot) in taken.iter_mut().zip(layer) {
             kept_out |= place.solid() && !place.high && dot.solid() && dot.high;
             if !place.solid() {
                 *place = dot;
@@ -292,19 +296,36 @@ fn early_and_late(tally: &mut Tally, view: &View, walk: &Walk) {
     tally.meet_if(kept_out, "early low sprite keeps a later high one out");
 }
 
-fn fronts(tally: &mut Tally, view: &View, dots: &[Dot]) {
+/// What a column has behind the sprites: plane A or the window, the one of the two that is not
+/// seen there, and plane B.
+#[derive(Clone, Copy)]
+pub struct Behind {
+    pub windowed: bool,
+    pub a: Dot,
+    pub unseen: Dot,
+    pub b: Dot,
+}
+
+/// The planes of each column, from left to right.
+pub fn behind(view: &View) -> Vec<Behind> {
     let scroll_a = planes::horizontal_scroll(view, Plane::A);
     let scroll_b = planes::horizontal_scroll(view, Plane::B);
-    let mut met = [false; 7];
-    let (mut under, mut covered) = (false, false);
-    for (x, sprite) in dots.iter().enumerate() {
+    let column = |x| {
         let plane = planes::plane_dot(view, Plane::A, scroll_a, x);
         let window = planes::window_dot(view, x);
         let windowed = planes::window_here(view, x);
-        let a = if windowed { window } else { plane };
-        covered |= windowed && !window.solid() && plane.solid();
-        let b = planes::plane_dot(view, Plane::B, scroll_b, x);
-        let layers = [*sprite, a, b];
+        let (a, unseen) = if windowed { (window, plane) } else { (plane, window) };
+        Behind { windowed, a, unseen, b: planes::plane_dot(view, Plane::B, scroll_b, x) }
+    };
+    (0..view.width()).map(column).collect()
+}
+
+fn fronts(tally: &mut Tally, view: &View, dots: &[Dot]) {
+    let mut met = [false; 7];
+    let (mut under, mut covered) = (false, false);
+    for (sprite, behind) in dots.iter().zip(behind(view)) {
+        covered |= behind.windowed && !behind.a.solid() && behind.unseen.solid();
+        let layers = [*sprite, behind.a, behind.b];
         met[front(layers)] = true;
         let high = layers[1..].iter().any(|dot| dot.solid() && dot.high);
         under |= sprite.solid() && !sprite.high && high;

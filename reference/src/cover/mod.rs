@@ -2,6 +2,7 @@
 //! The counts come from looking at each call from outside, before and after it; for the sprite
 //! flags, for used up, for cut runs and for frames also from what the calls before it did.
 
+mod columns;
 mod cuts;
 mod flags;
 mod frames;
@@ -11,6 +12,7 @@ mod ports;
 mod refused;
 mod refused_timing;
 mod runs;
+mod shading;
 mod timing;
 mod used_up;
 
@@ -62,7 +64,7 @@ impl Tally {
         }
         let calls = (1..=9).chain([13, 14]).map(recorded).collect();
         let one_call = [calls, ports::rules(), runs::rules(), refused::rules()];
-        let of_lines = [lines::rules(), masking::rules(), used_up::rules()];
+        let of_lines = [lines::rules(), masking::rules(), used_up::rules(), shading::rules()];
         let of_timing = [timing::rules(), refused_timing::rules()];
         let more_calls = [flags::rules(), cuts::rules(), frames::rules()];
         for list in [&one_call[..], &of_lines, &of_timing, &more_calls] {
@@ -112,6 +114,7 @@ impl Tally {
         if number != 0 {
             refused::count(self, &before, number);
             refused_timing::count(self, &before, number);
+            shading::count_refused(self, &before, number);
             return;
         }
         match command.op {
@@ -120,6 +123,7 @@ impl Tally {
             8 => {
                 lines::count(self, &before, machine);
                 masking::count(self, &before);
+                shading::count(self, &before, machine);
             }
             10 => runs::count_back(self, &before, machine),
             11 => lines::count_row(self, &before),

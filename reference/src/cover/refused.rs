@@ -117,14 +117,15 @@ fn not_zero(at: usize) -> String {
     format!("bad record: byte {at} is not 0, else good")
 }
 
-const REASONS: [&str; 10] = [
+const REASONS: [&str; 11] = [
     "register 0 bit 0",
     "register 0 bit 3",
     "register 1 bit 7",
     "register 1 bit 0",
     "register 1 bit 2 clear",
     "register 12 bits 7 and 0 differ",
-    "register 12 bits 3-1",
+    "register 12 bit 2",
+    "register 12 bit 1",
     "plane width code 2",
     "plane height code 2",
     "over 4,096 cells",

@@ -1,6 +1,8 @@
 //! Streams of lines and pattern rows: planes, window, scrolls, sprites in rings and chains.
 
-use super::{masking, Maker, COLLISION, DMA_KIND, OVERFLOW, REGISTER, REMAINING, SCROLL, USED_UP};
+use super::{
+    masking, shading, Maker, COLLISION, DMA_KIND, OVERFLOW, REGISTER, REMAINING, SCROLL, USED_UP,
+};
 use crate::draw;
 use crate::replay::{PIXELS, ROW, VRAM};
 
@@ -14,7 +16,7 @@ pub fn fill(maker: &mut Maker) {
 
 /// One phrase of drawing.
 pub fn episode(maker: &mut Maker) {
-    match maker.below(30) {
+    match maker.below(32) {
         0..=3 => layout(maker),
         4..=8 => ring(maker),
         9 => chain(maker),
@@ -30,6 +32,7 @@ pub fn episode(maker: &mut Maker) {
         25 => bad_state(maker),
         26 => highest(maker),
         27 | 28 => masking::episode(maker),
+        29 | 30 => shading::episode(maker),
         _ => (),
     }
     lines(maker);
@@ -53,10 +56,15 @@ pub fn sane(maker: &mut Maker) {
     set(maker, 0, 0x04);
     let mode = maker.pick(&[0x44, 0x4C, 0x54]);
     set(maker, 1, mode);
-    let width = maker.pick(&[0x81, 0x81, 0x00]);
-    set(maker, 12, width);
+    either_width(maker);
     let size = maker.pick(&[0x00, 0x01, 0x03, 0x10, 0x11, 0x30]);
     set(maker, 16, size);
+}
+
+/// Register 12 for one of the two widths, with bit 3 or without; its bits 6 to 4 do not matter.
+pub fn either_width(maker: &mut Maker) {
+    let width = maker.pick(&[0x81, 0x81, 0x89, 0x89, 0xF9, 0x00, 0x00, 0x08, 0x08, 0x70]);
+    set(maker, 12, width);
 }
 
 /// VRAM by chance and a whole set of registers.
@@ -70,8 +78,7 @@ pub fn scene(maker: &mut Maker) {
     set(maker, 0, 0x04);
     let mode = maker.pick(&[0x44, 0x4C, 0x64, 0x54]);
     set(maker, 1, mode);
-    let width = maker.pick(&[0x81, 0x81, 0x00]);
-    set(maker, 12, width);
+    either_width(maker);
     layout(maker);
     scrolls(maker);
     windows(maker);
@@ -89,8 +96,7 @@ fn layout(maker: &mut Maker) {
     let size = maker.pick(&[0x00, 0x01, 0x03, 0x10, 0x11, 0x30, 0xCC, 0x4D]);
     set(maker, 16, size);
     if maker.once_in(3) {
-        let width = maker.pick(&[0x81, 0x00, 0xF1, 0x70]);
-        set(maker, 12, width);
+        either_width(maker);
     }
 }
 
@@ -104,7 +110,7 @@ fn scrolls(maker: &mut Maker) {
     maker.field(SCROLL, 0, 0x3FF);
 }
 
-fn windows(maker: &mut Maker) {
+pub fn windows(maker: &mut Maker) {
     let across = maker.pick(&[0x00, 0x00, 0x05, 0x14, 0x1F, 0x80, 0x83, 0x90]);
     set(maker, 17, across);
     let down = maker.pick(&[0x00, 0x00, 0x00, 0x04, 0x10, 0x80, 0x8E, 0x9F]);
@@ -290,8 +296,8 @@ fn unmodelled(maker: &mut Maker) {
         (12, 0x01),
         (12, 0x83),
         (12, 0x85),
-        (12, 0x89),
-        (12, 0x08),
+        (12, 0x8B),
+        (12, 0x0C),
         (16, 0x02),
         (16, 0x20),
         (16, 0x31),

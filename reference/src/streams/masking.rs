@@ -17,11 +17,12 @@ enum At {
     Right,
 }
 
-/// A sprite for the table: its line, the bits of its width and height, its X word.
-struct Entry {
-    line: u32,
-    size: u8,
-    x: u16,
+/// A sprite for the table: its line, the bits of its width and height, its cell and its X word.
+pub struct Entry {
+    pub line: u32,
+    pub size: u8,
+    pub cell: u16,
+    pub x: u16,
 }
 
 /// The first lines of the two bands, and where the table has the sprite whose width decides
@@ -50,15 +51,14 @@ pub fn episode(maker: &mut Maker) {
 
 /// Lines are drawn, at either width, and words can be written to VRAM. A rewind would take back
 /// what is set here, so it comes first.
-fn ready(maker: &mut Maker) {
+pub fn ready(maker: &mut Maker) {
     let room = tape::capacity(maker).saturating_sub(maker.machine.count);
     if maker.machine.recorded && (room < ROOM || maker.once_in(2)) {
         tape::rewind(maker);
     }
     maker.calm();
     drawing::sane(maker);
-    let width = maker.pick(&[0x81, 0x00]);
-    drawing::set(maker, 12, width);
+    drawing::either_width(maker);
     drawing::set(maker, 15, 2);
 }
 
@@ -99,15 +99,22 @@ const MASKERS: [&[At]; 14] = [
 ];
 
 /// Width and height in cells less one, as the table has them.
-fn size(cells_wide: u32, cells_high: u32) -> u8 {
+pub fn size(cells_wide: u32, cells_high: u32) -> u8 {
     (4 * (cells_wide - 1) + cells_high - 1) as u8
+}
+
+/// A sprite at such a place, with a cell by chance, mostly a high one.
+fn entry(maker: &mut Maker, line: u32, size: u8, at: At) -> Entry {
+    let any = maker.word();
+    let cell = maker.pick(&[any, any | 0x8000, any | 0x8000]);
+    Entry { line, size, cell, x: x_word(maker, at) }
 }
 
 fn maskers(maker: &mut Maker, line: u32) -> Vec<Entry> {
     let mut list = Vec::new();
     for at in maker.pick(&MASKERS) {
         let size = size(1 + maker.below(4), 1 + maker.below(4));
-        list.push(Entry { line, size, x: x_word(maker, *at) });
+        list.push(entry(maker, line, size, *at));
     }
     list
 }
@@ -128,7 +135,7 @@ fn users(maker: &mut Maker, line: u32, widths: &[u32]) -> Vec<Entry> {
             _ => At::Shown,
         };
         let size = size(*cells_wide, 1 + maker.below(4));
-        list.push(Entry { line, size, x: x_word(maker, at) });
+        list.push(entry(maker, line, size, at));
     }
     list
 }
@@ -171,10 +178,10 @@ fn one_band(maker: &mut Maker) -> Bands {
     let fours = if wide(maker) { 10 } else { 8 };
     let mut entries = Vec::new();
     for _ in 0..fours {
-        entries.push(Entry { line, size: size(4, 1), x: x_word(maker, At::Zero) });
+        entries.push(entry(maker, line, size(4, 1), At::Zero));
     }
     for at in [At::Shown, At::Zero, At::Shown] {
-        entries.push(Entry { line, size: size(2, 1), x: x_word(maker, at) });
+        entries.push(entry(maker, line, size(2, 1), at));
     }
     let tuned = table(maker, &entries, 0);
     Bands { users: line, maskers: line, tuned }
@@ -182,16 +189,15 @@ fn one_band(maker: &mut Maker) -> Bands {
 
 /// Writes the table by the data port, each sprite linked to the next and the last one back. Gives
 /// the place of the first sprite of the last band.
-fn table(maker: &mut Maker, entries: &[Entry], back: usize) -> u16 {
+pub fn table(maker: &mut Maker, entries: &[Entry], back: usize) -> u16 {
     let base = drawing::sprite_base(maker) as u16;
     maker.point(1, base);
     for (number, entry) in entries.iter().enumerate() {
         let link = if number + 1 == entries.len() { back } else { number + 1 };
-        let any = maker.word();
-        let cell = maker.pick(&[any, any | 0x8000, any | 0x8000]);
-        maker.write((128 + entry.line) as u16 | any & 0xFE00);
+        let unused = maker.word() & 0xFE00;
+        maker.write((128 + entry.line) as u16 | unused);
         maker.write(256 * u16::from(entry.size) + link as u16);
-        maker.write(cell);
+        maker.write(entry.cell);
         maker.write(entry.x);
     }
     let last = entries.last().map(|entry| entry.line);
@@ -274,7 +280,7 @@ fn between(maker: &mut Maker) {
 }
 
 /// Register 1 bit 6 cleared, a line, which may be taken back, and the bit set again.
-fn blanked(maker: &mut Maker) {
+pub fn blanked(maker: &mut Maker) {
     let mode = maker.machine.state.registers[1];
     drawing::set(maker, 1, mode & !0x40);
     let line = maker.below(224);
@@ -283,6 +289,14 @@ fn blanked(maker: &mut Maker) {
         maker.back(1);
     }
     drawing::set(maker, 1, mode);
+}
+
+/// A line with another value in a register, which is then as it was.
+pub fn line_with(maker: &mut Maker, register: u16, value: u8, line: u32) {
+    let old = maker.machine.state.registers[usize::from(register)];
+    drawing::set(maker, register, value);
+    maker.line(line);
+    drawing::set(maker, register, old);
 }
 
 /// A line that is refused; its pixels and the state stay.
@@ -300,12 +314,7 @@ pub fn refused(maker: &mut Maker) {
             maker.line(line);
             maker.length(PIXELS, 320);
         }
-        2 => {
-            let size = maker.machine.state.registers[16];
-            drawing::set(maker, 16, 0x02);
-            maker.line(line);
-            drawing::set(maker, 16, size);
-        }
+        2 => line_with(maker, 16, 0x02, line),
         3 if maker.machine.recorded => {
             let count = maker.machine.count;
             let wrong = tape::capacity(maker) + maker.below(2);

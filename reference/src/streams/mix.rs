@@ -1,6 +1,6 @@
 //! Streams of everything together: plain and recorded calls, drawing, refusals.
 
-use super::{dma, drawing, masking, ports, refusals, tape, timing, Maker, USED_UP};
+use super::{dma, drawing, masking, ports, refusals, shading, tape, timing, Maker, USED_UP};
 use crate::replay::{CARTRIDGE, TAPE, WORK_RAM};
 
 pub fn fill(maker: &mut Maker) {
@@ -15,7 +15,7 @@ pub fn fill(maker: &mut Maker) {
 }
 
 fn episode(maker: &mut Maker) {
-    match maker.below(30) {
+    match maker.below(31) {
         0..=3 => ports::episode(maker),
         4..=6 => tape::episode(maker),
         7..=13 => drawing_episode(maker),
@@ -36,6 +36,7 @@ fn episode(maker: &mut Maker) {
         22 => brim(maker),
         23..=25 => timing::episode(maker),
         26 => masking::episode(maker),
+        27 => shading::episode(maker),
         _ => {
             let steps = maker.below(maker.machine.count.min(40) + 1);
             maker.back(steps);

@@ -7,6 +7,7 @@ mod masking;
 mod mix;
 mod ports;
 mod refusals;
+mod shading;
 mod tape;
 mod timing;
 

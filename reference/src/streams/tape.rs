@@ -2,7 +2,8 @@
 //! on full and short tapes, over spoilt records.
 
 use super::{
-    dma, masking, ports, refusals, timing, Maker, COLLISION, OVERFLOW, PAL, PENDING, USED_UP,
+    dma, masking, ports, refusals, shading, timing, Maker, COLLISION, OVERFLOW, PAL, PENDING,
+    USED_UP,
 };
 use crate::replay::{CARTRIDGE, TAPE, VRAM, WORK_RAM};
 use crate::state::UNITS_MOST;
@@ -30,7 +31,7 @@ pub fn fill(maker: &mut Maker) {
 
 /// One phrase of recorded calls.
 pub fn episode(maker: &mut Maker) {
-    match maker.below(38) {
+    match maker.below(39) {
         0..=8 => ports::episode(maker),
         9..=11 => dma::transfer(maker),
         12..=14 => dma::fill_dma(maker),
@@ -54,6 +55,7 @@ pub fn episode(maker: &mut Maker) {
         32 => flagged_reads(maker),
         33..=35 => timing::there_and_back(maker),
         36 => masking::episode(maker),
+        37 => shading::episode(maker),
         _ => maker.back(maker.machine.count),
     }
     if maker.once_in(3) {
