@@ -7,7 +7,7 @@ use native.Mathlib.Omega.{arith}
 use lib.Dec.{eqb}
 use Rattle.vdp_state.proofs.Bools.{by-cond}
 use Rattle.vdp_draw.specs.Dot.{solid, high}
-use Rattle.vdp_line.specs.Intensity.{half, darkens, lightens, spriteDrawn, behindSprites, spriteInFront, raised, intensity, pixel, InFrontAsMixed, PixelParts}
+use Rattle.vdp_line.specs.Intensity.{normal, half, darkens, lightens, spriteDrawn, behindSprites, spriteInFront, raised, shade, intensity, pixel, InFrontAsMixed, PixelParts}
 use Rattle.vdp_line.specs.Line.{WithoutShadow}
 use Rattle.vdp_line.specs.Mix.{index, inFront, mix}
 
@@ -30,20 +30,20 @@ index-small backdrop b a sprite h =
 abbrev pub Step : ℕ → Type 0
 Step n = (n % 64 ≡ 0) × (n ≤ 128)
 
-pub intensity-step : (b a sprite : ℕ) → Step (intensity b a sprite)
-unfolding intensity
-intensity-step b a sprite =
+pub shade-step : (b a sprite : ℕ) → Step (shade b a sprite)
+shade-step b a sprite =
     let normally : Step 0 = (refl, omega arith) in
     let halved : Step 64 = (refl, omega arith) in
     let doubled : Step 128 = (refl, omega arith) in
     let there : Step (behindSprites b a) = either Step (high a || high b) _ _ normally halved in
     let lit : Step (raised (behindSprites b a)) = either Step (eqb (behindSprites b a) half) _ _ normally doubled in
     let drawn = either Step (high sprite || eqb (sprite % 16) 14) _ _ normally there in
-    either Step (spriteInFront b a sprite) _ _ (either Step (darkens sprite) _ _ halved (either Step (lightens sprite) _ _ lit drawn)) there
+    let front = either Step (darkens sprite) _ _ halved (either Step (lightens sprite) _ _ lit drawn) in
+    either Step (spriteInFront b a sprite) _ _ front there
 
 -- ---- the claims
 pub as-mixed : (backdrop b a sprite : ℕ) → pixel false backdrop b a sprite ≡ mix backdrop b a sprite
-unfolding pixel
+unfolding pixel intensity
 as-mixed backdrop b a sprite = add-zero (mix backdrop b a sprite)
 
 pub without-shadow : WithoutShadow
@@ -62,10 +62,8 @@ in-front-as-mixed backdrop b a sprite = by-dots (solid sprite) refl (high sprite
     by-dots true e false f false g false i = simp (e, f, g, i)
 
 pub pixel-parts : PixelParts
-unfolding pixel
-pixel-parts true backdrop b a sprite h =
-    let small = index-small backdrop b a (spriteDrawn true sprite) h in
-    let step = intensity-step b a sprite in
+unfolding pixel intensity
+pixel-parts shadow backdrop b a sprite h =
+    let small = index-small backdrop b a (spriteDrawn shadow sprite) h in
+    let step = either Step shadow (shade b a sprite) normal (shade-step b a sprite) (refl, omega arith) in
     (omega (arith, small, step .0, step .1), omega (arith, small, step .0, step .1))
-pixel-parts false backdrop b a sprite h =
-    let small = index-small backdrop b a sprite h in (omega (arith, small), omega (arith, small))

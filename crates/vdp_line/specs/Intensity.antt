@@ -51,14 +51,16 @@ underSprite sprite there =
     (cond (lightens sprite) (raised there) (cond (high sprite || eqb (sprite % 16) 14) normal there))
 
 -- "Else the intensity stays that of backdrop and planes."
-unfoldable pub intensity : ℕ → ℕ → ℕ → ℕ
-intensity b a sprite =
-    cond (spriteInFront b a sprite) (underSprite sprite (behindSprites b a)) (behindSprites b a)
+abbrev pub shade : ℕ → ℕ → ℕ → ℕ
+shade b a sprite = cond (spriteInFront b a sprite) (underSprite sprite (behindSprites b a)) (behindSprites b a)
 
--- the pixel byte: "With register 12 bit 3 clear every intensity is normal"
+-- "With register 12 bit 3 clear every intensity is normal"
+unfoldable pub intensity : Bool → ℕ → ℕ → ℕ → ℕ
+intensity shadow b a sprite = cond shadow (shade b a sprite) normal
+
+-- "A pixel byte is a colour index, 0 to 63, plus an intensity"
 unfoldable pub pixel : Bool → ℕ → ℕ → ℕ → ℕ → ℕ
-pixel shadow backdrop b a sprite =
-    mix backdrop b a (spriteDrawn shadow sprite) + cond shadow (intensity b a sprite) normal
+pixel shadow backdrop b a sprite = mix backdrop b a (spriteDrawn shadow sprite) + intensity shadow b a sprite
 
 -- ---- claims
 -- the sprites' dot lies in front where mixing has it there
@@ -71,4 +73,4 @@ abbrev pub PixelParts : Type 0
 PixelParts =
     (shadow : Bool) (backdrop b a sprite : ℕ) → backdrop < 64
     → let byte = pixel shadow backdrop b a sprite in
-    (byte % 64 ≡ mix backdrop b a (spriteDrawn shadow sprite)) × (64 * (byte / 64) ≡ cond shadow (intensity b a sprite) normal)
+    (byte % 64 ≡ mix backdrop b a (spriteDrawn shadow sprite)) × (64 * (byte / 64) ≡ intensity shadow b a sprite)

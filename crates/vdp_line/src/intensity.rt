@@ -2,7 +2,7 @@
 ghost use mathlib.Core.Path.{_≡_};
 ghost use mathlib.Core.Bool.{true};
 ghost use Prim.Native.Nat.{_<_};
-ghost use Rattle.vdp_line.specs.Intensity.{spriteDrawn, behindSprites, spriteInFront, raised as raisedOf, underSprite, intensity as intensityOf, pixel as pixelOf};
+ghost use Rattle.vdp_line.specs.Intensity.{spriteDrawn, behindSprites, spriteInFront, raised as raisedOf, underSprite, shade as shadeOf, pixel as pixelOf};
 use crate::mix::in_front;
 use crate::mix::mix;
 use vdp_draw::dot::high;
@@ -19,7 +19,7 @@ const DARKENS: u8 = 62;
 
 const LIGHTENS: u8 = 63;
 
-// What is drawn of the sprites' dot: nothing of an operator.
+// What is drawn of the sprites' dot with shadow and highlight: nothing of an operator.
 fn sprite_drawn(sprite: u8) -> u8
     ensures { λ r. ⌜ r ≡ spriteDrawn true sprite ⌝ }
 {
@@ -69,8 +69,8 @@ fn under_sprite(sprite: u8, there: u8) -> u8
 }
 
 // The intensity of a column with shadow and highlight.
-fn intensity(b: u8, a: u8, sprite: u8) -> u8
-    ensures { λ r. ⌜ r ≡ intensityOf b a sprite ⌝ }
+fn shade(b: u8, a: u8, sprite: u8) -> u8
+    ensures { λ r. ⌜ r ≡ shadeOf b a sprite ⌝ }
 {
     let there = behind_sprites(b, a);
     if sprite_in_front(b, a, sprite) {
@@ -80,13 +80,13 @@ fn intensity(b: u8, a: u8, sprite: u8) -> u8
     }
 }
 
-// The pixel byte of a column.
+// The pixel byte of a column; without shadow it is mixed and no more.
 pub(crate) fn pixel(shadow: bool, backdrop: u8, b: u8, a: u8, sprite: u8) -> u8
     requires { ⌜ backdrop < 64 ⌝ }
     ensures { λ r. ⌜ r ≡ pixelOf shadow backdrop b a sprite ⌝ }
 {
     if shadow {
-        return mix(backdrop, b, a, sprite_drawn(sprite)) + intensity(b, a, sprite);
+        return mix(backdrop, b, a, sprite_drawn(sprite)) + shade(b, a, sprite);
     }
     mix(backdrop, b, a, sprite)
 }
