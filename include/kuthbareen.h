@@ -9,7 +9,8 @@
  *   - memory that a call may write (no const) overlaps nothing else that the call is lent;
  *   - the count of a tape is 0 at first, and then the one that the last call on this tape gave; between two such calls
  *     neither the tape nor the state nor VRAM is changed by anything else, else a step back leads elsewhere.
- * Nothing else: any numbers and any counts are answered, and a refused call leaves all it was lent as it came.
+ * Nothing else: any numbers and any counts are answered, and a refused call leaves all it was lent as it came; a script
+ * that is run is many calls, and those before the refused one stand.
  * Compare states field by field; the bytes between fields are not kept. */
 #ifndef KUTHBAREEN_H
 #define KUTHBAREEN_H
@@ -22,8 +23,8 @@
 extern "C" {
 #endif
 
-/* The numbers a call may answer; 9 is never given. Where several would do, a call answers the first of 1, 2, 3, 10, 8,
- * 5, 4, 7, 6. */
+/* The numbers a call may answer; 9 is never given. Where several would do, a call answers the first of 1, 2, 11, 3, 10,
+ * 8, 5, 4, 7, 6. */
 enum {
     KUTHBAREEN_DONE = 0,            /* the call was made */
     KUTHBAREEN_BAD_STATE = 1,       /* the state is not GOOD */
@@ -34,7 +35,8 @@ enum {
     KUTHBAREEN_TAPE_FULL = 6,       /* fewer free records than steps to be made */
     KUTHBAREEN_SOURCE_NOT_LENT = 7, /* a word to be moved lies in no lent memory */
     KUTHBAREEN_BAD_RECORD = 8,      /* a record of the tape breaks the layout */
-    KUTHBAREEN_NOTHING_THERE = 10   /* a step back of more than the count, or a level that is not offered */
+    KUTHBAREEN_NOTHING_THERE = 10,  /* a step back of more than the count, or a level that is not offered */
+    KUTHBAREEN_BAD_SCRIPT = 11      /* a script is not well formed, or no whole item begins at the byte */
 };
 
 /* The sizes that calls ask for, in bytes. */
@@ -60,6 +62,19 @@ enum {
     KUTHBAREEN_NORMAL = 0,
     KUTHBAREEN_HALF = 64,
     KUTHBAREEN_DOUBLE = 128
+};
+
+/* A script is the version and its items, one after the other. An item is a length of two bytes, a kind and a content,
+ * upper byte first; the kinds are these, and the first item begins at byte KUTHBAREEN_FIRST_ITEM. */
+enum { KUTHBAREEN_SCRIPT_VERSION = 1, KUTHBAREEN_FIRST_ITEM = 1, KUTHBAREEN_MOST_ITEM_SIZE = 5 };
+enum {
+    KUTHBAREEN_ITEM_CONTROL_WORD = 1, /* content: the word */
+    KUTHBAREEN_ITEM_DATA_WORD = 2,    /* content: the word */
+    KUTHBAREEN_ITEM_DATA_READ = 3,
+    KUTHBAREEN_ITEM_STATUS_READ = 4,
+    KUTHBAREEN_ITEM_RUN = 5,  /* content: the budget */
+    KUTHBAREEN_ITEM_LINE = 6, /* content: the line number */
+    KUTHBAREEN_ITEM_NEW_FRAME = 7
 };
 
 /* How many steps a tape of n bytes can hold. */
@@ -124,6 +139,25 @@ typedef struct {
     uint32_t result; /* as of the plain call */
     size_t count;    /* the records on the tape, for the next call */
 } kuthbareen_recorded;
+
+/* What a script that is run or judged gives back. */
+typedef struct {
+    uint8_t number; /* one of the numbers above */
+    size_t place;   /* of the item that was refused or is faulty, from 0; with KUTHBAREEN_DONE how many items there are */
+} kuthbareen_script_answer;
+
+/* What one item of a script gives back. */
+typedef struct {
+    uint8_t number;  /* one of the numbers above */
+    uint32_t result; /* as of the plain call */
+    size_t next;     /* the byte after the item; where it was refused, the byte that was given */
+} kuthbareen_item_answer;
+
+/* What writing an item gives back. */
+typedef struct {
+    uint8_t number; /* KUTHBAREEN_DONE, _BAD_BUFFER or _BAD_SCRIPT */
+    size_t next;    /* the byte after the item, 0 where it was refused */
+} kuthbareen_item_written;
 
 /* A fresh state: all zero but for the line, which is KUTHBAREEN_LAST_LINE, and PAL, which is as asked. */
 kuthbareen_state kuthbareen_fresh(bool pal);
@@ -216,6 +250,30 @@ kuthbareen_recorded kuthbareen_recorded_line(kuthbareen_state *state, const uint
 /* Takes the last k steps back: state and VRAM are as before them, and the count is k less. The tape's bytes stay. */
 kuthbareen_recorded kuthbareen_step_back(kuthbareen_state *state, uint8_t *vram, size_t vram_size, const uint8_t *tape,
                                          size_t tape_size, size_t count, size_t k);
+
+/* Runs a script. It is judged as a whole first, and one that is not well formed makes no call. Then its plain calls are
+ * made in their order. The first that is refused ends it, and those before it stand: here a number other than
+ * KUTHBAREEN_DONE does not say that all is as it came. */
+kuthbareen_script_answer kuthbareen_run_script(kuthbareen_state *state, uint8_t *vram, size_t vram_size,
+                                               const uint8_t *cartridge, size_t cartridge_size, const uint8_t *ram,
+                                               size_t ram_size, uint8_t *pixels, size_t pixels_size,
+                                               const uint8_t *script, size_t script_size);
+
+/* Makes the call of the item that begins at byte at of a script; what stands before it is not looked at. With
+ * kuthbareen_judge_script first and then from KUTHBAREEN_FIRST_ITEM on to the end, this runs a script and has each
+ * call's answer. */
+kuthbareen_item_answer kuthbareen_script_item(kuthbareen_state *state, uint8_t *vram, size_t vram_size,
+                                              const uint8_t *cartridge, size_t cartridge_size, const uint8_t *ram,
+                                              size_t ram_size, uint8_t *pixels, size_t pixels_size,
+                                              const uint8_t *script, size_t script_size, size_t at);
+
+/* Whether a script is well formed, and where it is not. */
+kuthbareen_script_answer kuthbareen_judge_script(const uint8_t *script, size_t script_size);
+
+/* Writes the item of a kind with this content at byte at of a script, over what stands there; kinds without a content
+ * do not look at it. The version is the caller's to write, at byte 0. */
+kuthbareen_item_written kuthbareen_write_item(uint8_t *script, size_t script_size, size_t at, uint8_t kind,
+                                              uint16_t content);
 
 /* The parts of a colour word, given register 0: 256 x blue + 16 x green + red, each 0 to 7. Never refused. */
 uint32_t kuthbareen_colour_parts(uint16_t word, uint8_t register0);

@@ -12,9 +12,18 @@ pub const TAPE_FULL: Answer = 6;
 pub const SOURCE_NOT_LENT: Answer = 7;
 pub const BAD_RECORD: Answer = 8;
 pub const NOTHING_THERE: Answer = 10;
+pub const BAD_SCRIPT: Answer = 11;
 
 /// An accepted call gives its result, a refused one its number.
 pub type Reply = Result<u32, Answer>;
+
+/// The number and the result that are printed; a refused call has 0 as its result.
+pub fn numbers(reply: Reply) -> (Answer, u32) {
+    match reply {
+        Ok(result) => (DONE, result),
+        Err(number) => (number, 0),
+    }
+}
 
 /// Refuses with the given number unless the condition holds.
 pub fn need(holds: bool, otherwise: Answer) -> Result<(), Answer> {

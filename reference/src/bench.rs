@@ -1,7 +1,26 @@
 //! The bench that the tests' cases are worked on.
 
-use crate::replay::{Command, Machine};
+use crate::replay::{Command, Machine, SCRIPT};
 use crate::state::State;
+
+pub fn command(op: u8, a: u8, b: u16, c: u32) -> Command {
+    Command { op, a, b, c }
+}
+
+pub const RUN_SCRIPT: Command = Command { op: 17, a: 0, b: 0, c: 0 };
+
+/// The length at which the script is lent.
+pub fn script_length(bytes: u32) -> Command {
+    command(36, 0, SCRIPT, bytes)
+}
+
+/// Commands that put these bytes into the script and lend just those.
+pub fn lend_script(bytes: &[u8]) -> Vec<Command> {
+    let poke = |(at, byte): (u32, &u8)| command(34, *byte, SCRIPT, at);
+    let mut commands: Vec<_> = (0..).zip(bytes).map(poke).collect();
+    commands.push(script_length(bytes.len() as u32));
+    commands
+}
 
 /// A step back over the record of a call on a fresh chip, with these bytes of it changed: its number,
 /// and the state after it.

@@ -70,7 +70,8 @@ impl Checker {
         }
     }
 
-    /// Anything but a booked call ends the book's say if it touched what the book follows.
+    /// Anything but a booked call ends the book's say if it touched what the book follows. A script
+    /// that is run is plain calls, so it does too.
     fn drop_if_changed(&mut self, command: &Command) {
         let Some(book) = &self.book else {
             return;

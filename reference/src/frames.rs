@@ -522,7 +522,7 @@ fn the_lines_that_ops_13_to_16_print() {
         (38, 1, None),
         (13, 0, Some("13 0 0 1")),
         (16, 0, Some("16 0 0 1")),
-        (17, 0, None),
+        (19, 0, None),
     ] {
         let printed = bench.0.apply(&Command { op, a, b: 0, c: 0 });
         assert_eq!(printed.as_deref(), line);

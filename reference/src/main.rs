@@ -2,7 +2,8 @@
 //! "definition". It was written from the rules in words, without a look at the proved program or
 //! its definitions. Where the rules left a choice its author had our readings, so there the two
 //! agree because both follow the reading; docs/DECISIONS.md lists them.
-//! Reads and makes replay streams (docs/STREAM.md), and counts which rules the streams meet.
+//! Reads and makes replay streams (docs/STREAM.md), and counts which rules the streams meet. Runs a
+//! script as the program `script` does, and makes script files.
 //! The chip's description is Charles MacDonald's "Sega Genesis VDP documentation", 1.5f.
 
 #![forbid(unsafe_code)]
@@ -33,6 +34,9 @@ mod pattern;
 mod planes;
 mod ports;
 mod replay;
+mod script;
+#[cfg(test)]
+mod scripts;
 #[cfg(test)]
 mod shaded_lines;
 mod shading;
@@ -45,12 +49,18 @@ mod timing;
 mod worked;
 
 use std::io::{self, Read, Write};
+use std::path::Path;
 use std::process::ExitCode;
+
+use script::files::files;
+use script::program;
 
 const USAGE: &str = "usage: reference replay [--book] < stream
        reference gen SEED KIND COUNT > stream
        reference cover STREAM ..
-kinds: ports dma refusals tape timing drawing mix";
+       reference script < script
+       reference scripts SEED COUNT DIRECTORY
+kinds: ports dma refusals tape timing drawing mix script";
 
 fn main() -> ExitCode {
     let words: Vec<String> = std::env::args().skip(1).collect();
@@ -63,6 +73,11 @@ fn main() -> ExitCode {
             None => Ok(usage()),
         },
         ["cover", first, more @ ..] => cover_streams(first, more),
+        ["script"] => run_script(),
+        ["scripts", seed, count, directory] => match (seed.parse(), count.parse()) {
+            (Ok(seed), Ok(count)) => write_scripts(seed, count, directory),
+            _ => Ok(usage()),
+        },
         _ => Ok(usage()),
     };
     done.unwrap_or_else(|error| {
@@ -124,10 +139,36 @@ fn generate(seed: &str, kind: &str, count: &str) -> Option<Vec<u8>> {
 fn cover_streams(first: &str, more: &[&str]) -> io::Result<ExitCode> {
     let mut tally = cover::Tally::new();
     for file in std::iter::once(&first).chain(more) {
-        let bytes = std::fs::read(file)
-            .map_err(|error| io::Error::new(error.kind(), format!("{file}: {error}")))?;
+        let bytes = std::fs::read(file).map_err(|error| named(error, file))?;
         tally.follow(&replay::commands(&bytes));
     }
     io::stdout().write_all(tally.text().as_bytes())?;
     Ok(if tally.never().is_empty() { ExitCode::SUCCESS } else { ExitCode::FAILURE })
+}
+
+/// A script that is refused, or stopped by a refused call, makes the exit status 1.
+fn run_script() -> io::Result<ExitCode> {
+    let mut script = Vec::new();
+    let enough = program::MOST_BYTES as u64 + 1;
+    io::stdin().lock().take(enough).read_to_end(&mut script)?;
+    let told = program::told(&script);
+    let mut out = io::BufWriter::new(io::stdout().lock());
+    for line in &told.lines {
+        writeln!(out, "{line}")?;
+    }
+    out.flush()?;
+    Ok(if told.done { ExitCode::SUCCESS } else { ExitCode::FAILURE })
+}
+
+fn write_scripts(seed: u64, count: usize, directory: &str) -> io::Result<ExitCode> {
+    for (name, bytes) in files(seed, count) {
+        let path = Path::new(directory).join(&name);
+        std::fs::write(path, bytes).map_err(|error| named(error, &name))?;
+    }
+    Ok(ExitCode::SUCCESS)
+}
+
+/// An error with the name of the file that it is about.
+fn named(error: io::Error, name: &str) -> io::Error {
+    io::Error::new(error.kind(), format!("{name}: {error}"))
 }

@@ -1,9 +1,12 @@
 //! The replay stream: its commands, the machine they drive and the lines they print.
 
-use crate::answer::{Reply, DONE};
+use crate::answer::{numbers, Reply};
 use crate::calls;
 use crate::dma::Memories;
 use crate::ports::doubled;
+use crate::script::form::Report;
+use crate::script::run::{self, Lent};
+use crate::script::{self, Item};
 use crate::state::{State, COLOURS, REGISTERS, SCROLLS};
 use crate::tape::Tape;
 
@@ -18,6 +21,7 @@ pub const WORK_RAM: u16 = 2;
 pub const CARTRIDGE: u16 = 3;
 pub const TAPE: u16 = 4;
 pub const ROW: u16 = 5;
+pub const SCRIPT: u16 = 6;
 
 #[derive(Clone, Copy, Debug, PartialEq, Eq)]
 pub struct Command {
@@ -39,9 +43,14 @@ impl Command {
         [self.op, self.a, b1, b0, c3, c2, c1, c0]
     }
 
-    /// Does it call the model?
+    /// Does it call the model? An item of no kind is not written and prints nothing.
     pub fn calls(self) -> bool {
-        (1..=16).contains(&self.op)
+        (1..=17).contains(&self.op) || self.item().is_some()
+    }
+
+    /// The item that op 18 writes.
+    pub fn item(self) -> Option<Item> {
+        Item::of(self.a, self.b).filter(|_| self.op == 18)
     }
 
     /// Has its call a recorded form?
@@ -90,6 +99,7 @@ pub struct Machine {
     pub cartridge: Buffer,
     pub tape: Buffer,
     pub row: Buffer,
+    pub script: Buffer,
     pub count: u32,
     pub recorded: bool,
 }
@@ -104,6 +114,7 @@ impl Machine {
             cartridge: Buffer::zero(131_076, 131_072),
             tape: Buffer::zero(131_080, 131_072),
             row: Buffer::zero(12, 8),
+            script: Buffer::zero(16_388, 0),
             count: 0,
             recorded: false,
         }
@@ -127,15 +138,32 @@ impl Machine {
     }
 
     fn call_line(&mut self, command: &Command) -> String {
-        let (number, result) = match self.call(command) {
-            Ok(result) => (DONE, result),
-            Err(number) => (number, 0),
+        let (number, result) = match command.op {
+            17 => self.run_script(),
+            _ => numbers(self.call(command)),
         };
         format!("{} {} {} {}", command.op, number, result, self.count)
     }
 
-    /// Ops 1 to 16.
+    /// Op 17; a refused script has a place too.
+    pub fn run_script(&mut self) -> Report {
+        let (mut lent, script) = self.lent();
+        run::script(&mut lent, script)
+    }
+
+    /// What a script's calls are made on, and the script. They are plain, whatever `recorded` is.
+    pub fn lent(&mut self) -> (Lent<'_>, &[u8]) {
+        let memories =
+            Memories { cartridge: self.cartridge.lent(), work_ram: self.work_ram.lent() };
+        let (vram, pixels) = (self.vram.lent_mut(), self.pixels.lent_mut());
+        (Lent { state: &mut self.state, vram, memories, pixels }, self.script.lent())
+    }
+
+    /// Ops 1 to 16, and 18.
     pub fn call(&mut self, command: &Command) -> Reply {
+        if let Some(item) = command.item() {
+            return script::write_item(self.script.lent_mut(), command.c as usize, item);
+        }
         match command.op {
             1 => self.control(command.b),
             2 => self.control(doubled(command.a)),
@@ -225,6 +253,7 @@ impl Machine {
             CARTRIDGE => Some(&mut self.cartridge),
             TAPE => Some(&mut self.tape),
             ROW => Some(&mut self.row),
+            SCRIPT => Some(&mut self.script),
             _ => None,
         }
     }

@@ -537,7 +537,8 @@ fn kinds_keep_to_their_ops() {
                     Kind::Ports | Kind::Dma => plain,
                     Kind::Refusals => plain || command.op == 8,
                     Kind::Drawing => plain || matches!(command.op, 8 | 11),
-                    Kind::Tape | Kind::Timing => command.op != 11,
+                    Kind::Tape | Kind::Timing => !matches!(command.op, 11 | 17 | 18),
+                    Kind::Script => command.op != 11,
                     Kind::Mix => true,
                 };
                 assert!(fits, "{kind:?} {seed}: {command:?}");
@@ -550,8 +551,8 @@ fn kinds_keep_to_their_ops() {
 #[test]
 fn any_commands_are_borne() {
     let mut checker = Checker::new();
-    for seed in 0..3 {
-        for command in stream(seed, Kind::Mix, 400) {
+    for (seed, kind) in [(0, Kind::Mix), (1, Kind::Mix), (2, Kind::Mix), (3, Kind::Script)] {
+        for command in stream(seed, kind, 400) {
             let turned = Command {
                 c: command.c.rotate_left(7) ^ u32::from(command.b),
                 a: command.a.wrapping_mul(31),

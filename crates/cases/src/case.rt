@@ -4,6 +4,7 @@ use stream::digest::state;
 use stream::machine::Machine;
 use stream::machine::start;
 use stream::turn::Turn;
+use vdp_script::form::Judged;
 
 pub(crate) struct Case {
     pub machine: Machine,
@@ -84,6 +85,14 @@ pub(crate) fn answered(c: Case, t: Turn, at: usize) -> Case {
         next.number = line.numbers[1];
         next.result = line.numbers[2];
     }
+    next
+}
+
+// The case after a script was judged: the number and the place.
+pub(crate) fn judged(c: Case, j: Judged) -> Case {
+    let mut next = c;
+    next.number = j.number as u32;
+    next.result = (j.place % 4_294_967_296) as u32;
     next
 }
 

@@ -3,6 +3,7 @@ use crate::case::Case;
 use crate::case::answered;
 use crate::case::group_begun;
 use crate::case::group_done;
+use crate::case::judged;
 use crate::case::marked;
 use crate::case::moved;
 use crate::case::named;
@@ -15,15 +16,25 @@ use crate::text::write_name;
 use crate::text::write_value;
 use crate::value::value;
 use stream::command::Command;
+use stream::machine::SCRIPT;
+use stream::machine::lent;
 use stream::session::turn;
 use stream::setup::fill;
+use vdp_script::admitted::admitted;
 use vdp_state::cell::byte_at;
 
-fn clear(vram: &mut [u8], ram: &mut [u8], cartridge: &mut [u8], tape: &mut [u8]) {
+fn clear(
+    vram: &mut [u8],
+    ram: &mut [u8],
+    cartridge: &mut [u8],
+    tape: &mut [u8],
+    script: &mut [u8],
+) {
     fill(vram, 0);
     fill(ram, 0);
     fill(cartridge, 0);
     fill(tape, 0);
+    fill(script, 0);
 }
 
 // `= NAME`: a case begins.
@@ -48,13 +59,13 @@ fn repeat(c: Case, text: &[u8]) -> Case {
     group_begun(c, times.end, times.value)
 }
 
-// The op of a letter: 1 to 16, and 32 to 39.
+// The op of a letter: 1 to 18, and 32 to 39.
 fn op_of(letter: u8) -> u8 {
-    let i = place_of(b"cCdDrsulfkpxiavo!zbgnmth", letter);
-    if i < 16 {
+    let i = place_of(b"cCdDrsulfkpxiavoqw!zbgnmth", letter);
+    if i < 18 {
         (i as u8) + 1
     } else {
-        ((i % 32) as u8) + 16
+        ((i % 32) as u8) + 14
     }
 }
 
@@ -88,10 +99,22 @@ fn act(
     ram: &mut [u8],
     cartridge: &mut [u8],
     tape: &mut [u8],
+    script: &mut [u8],
 ) -> Case {
     let read = command(text, c.at);
     let k = read.command;
-    answered(c, turn(c.machine, k, vram, ram, cartridge, tape), read.end)
+    answered(
+        c,
+        turn(c.machine, k, vram, ram, cartridge, tape, script),
+        read.end,
+    )
+}
+
+// `j`: the script is judged as the program `script` does it.
+fn judge(c: Case, script: &[u8]) -> Case {
+    let m = c.machine;
+    let n = lent(m.lengths[SCRIPT], script.len());
+    judged(c, admitted(&script[..n]))
 }
 
 // What the next item does. `*` marks the state and VRAM, and `#` begins a comment.
@@ -102,19 +125,21 @@ pub(crate) fn item(
     ram: &mut [u8],
     cartridge: &mut [u8],
     tape: &mut [u8],
+    script: &mut [u8],
 ) -> Case {
     let b = byte_at(text, c.at);
     match b {
         0..=b' ' => moved(c, onward(c.at)),
         b'=' => {
-            clear(vram, ram, cartridge, tape);
+            clear(vram, ram, cartridge, tape, script);
             begin(c, text)
         }
         b'?' => show(c, text, vram),
         b'(' => repeat(c, text),
         b')' => group_done(c, onward(c.at)),
         b'*' => moved(marked(c, vram), onward(c.at)),
+        b'j' => moved(judge(c, script), onward(c.at)),
         b'#' => moved(c, line_end(text, c.at)),
-        _ => act(c, text, vram, ram, cartridge, tape),
+        _ => act(c, text, vram, ram, cartridge, tape, script),
     }
 }

@@ -11,6 +11,7 @@ use crate::item::item;
 use crate::text::TEXT;
 use libc::STDIN_FILENO;
 use stream::machine::CARTRIDGE_HELD;
+use stream::machine::SCRIPT_HELD;
 use stream::machine::TAPE_HELD;
 use stream::machine::VRAM_HELD;
 use stream::machine::WORK_RAM_HELD;
@@ -25,22 +26,23 @@ fn play(
     ram: &mut [u8],
     cartridge: &mut [u8],
     tape: &mut [u8],
+    script: &mut [u8],
 ) -> Case {
     let mut c = beginning();
     let mut left = ITEMS;
     while 0 < left {
         left -= 1;
-        let next = item(c, text, vram, ram, cartridge, tape);
+        let next = item(c, text, vram, ram, cartridge, tape, script);
         c = next;
     }
     c
 }
 
 // Reads the text and does its items.
-fn read(vram: &mut [u8], ram: &mut [u8], cartridge: &mut [u8], tape: &mut [u8]) {
+fn read(vram: &mut [u8], ram: &mut [u8], cartridge: &mut [u8], tape: &mut [u8], script: &mut [u8]) {
     let mut text = [0u8; TEXT];
     let n = io::read_full(STDIN_FILENO, &mut text);
-    play(&text[..n], vram, ram, cartridge, tape);
+    play(&text[..n], vram, ram, cartridge, tape, script);
 }
 
 fn main() {
@@ -48,5 +50,6 @@ fn main() {
     let mut ram = [0u8; WORK_RAM_HELD];
     let mut cartridge = [0u8; CARTRIDGE_HELD];
     let mut tape = [0u8; TAPE_HELD];
-    read(&mut vram, &mut ram, &mut cartridge, &mut tape);
+    let mut script = [0u8; SCRIPT_HELD];
+    read(&mut vram, &mut ram, &mut cartridge, &mut tape, &mut script);
 }

@@ -9,6 +9,7 @@ use stream::command::COMMAND_BYTES;
 use stream::command::Command;
 use stream::command::command_of;
 use stream::machine::CARTRIDGE_HELD;
+use stream::machine::SCRIPT_HELD;
 use stream::machine::TAPE_HELD;
 use stream::machine::VRAM_HELD;
 use stream::machine::WORK_RAM_HELD;
@@ -47,14 +48,14 @@ fn still(left: u32, whole: bool) -> u32
 }
 
 // Does a whole stream on buffers that are zero.
-fn play(vram: &mut [u8], ram: &mut [u8], cartridge: &mut [u8], tape: &mut [u8]) {
+fn play(vram: &mut [u8], ram: &mut [u8], cartridge: &mut [u8], tape: &mut [u8], script: &mut [u8]) {
     let mut m = start();
     let mut left = COMMANDS;
     while 0 < left {
         let next = read_command();
         left = still(left - 1, next.whole);
         let k = next.command;
-        let t = turn(m, k, vram, ram, cartridge, tape);
+        let t = turn(m, k, vram, ram, cartridge, tape, script);
         let line = t.line;
         print(line);
         let after = t.machine;
@@ -67,5 +68,6 @@ fn main() {
     let mut ram = [0u8; WORK_RAM_HELD];
     let mut cartridge = [0u8; CARTRIDGE_HELD];
     let mut tape = [0u8; TAPE_HELD];
-    play(&mut vram, &mut ram, &mut cartridge, &mut tape);
+    let mut script = [0u8; SCRIPT_HELD];
+    play(&mut vram, &mut ram, &mut cartridge, &mut tape, &mut script);
 }

@@ -18,7 +18,9 @@ pub const TAPE: usize = 4;
 
 pub const ROW: usize = 5;
 
-pub const BUFFERS: usize = 6;
+pub const SCRIPT: usize = 6;
+
+pub const BUFFERS: usize = 7;
 
 // The bytes held of each: a few more than a call wants, so that a stream can also lend a buffer too long.
 pub const VRAM_HELD: usize = 65540;
@@ -33,11 +35,13 @@ pub const TAPE_HELD: usize = 131_080;
 
 pub const ROW_HELD: usize = 12;
 
+pub const SCRIPT_HELD: usize = 16388;
+
 pub struct Machine {
     pub state: State,
     pub pixels: [u8; PIXELS_HELD],
     pub row: [u8; ROW_HELD],
-    pub lengths: [usize; 6],
+    pub lengths: [usize; 7],
     pub count: u32,
     pub recorded: bool,
 }
@@ -48,7 +52,7 @@ pub fn start() -> Machine {
         state: fresh(false),
         pixels: [0; PIXELS_HELD],
         row: [0; ROW_HELD],
-        lengths: [65536, 320, 65536, 131_072, 131_072, 8],
+        lengths: [65536, 320, 65536, 131_072, 131_072, 8, 0],
         count: 0,
         recorded: false,
     }
@@ -76,7 +80,7 @@ pub(crate) fn with_row(m: Machine, row: [u8; ROW_HELD]) -> Machine {
 }
 
 // How many bytes of a buffer are lent: the smaller of the length asked for and the bytes held.
-pub(crate) fn lent(asked: usize, held: usize) -> usize
+pub fn lent(asked: usize, held: usize) -> usize
     ensures { λ r. ⌜ r ≤ held ⌝ }
     ensures { λ r. ⌜ r ≡ min asked held ⌝ }
 {

@@ -5,6 +5,7 @@ use crate::command::Command;
 use crate::digest::digest_line;
 use crate::machine::CARTRIDGE;
 use crate::machine::Machine;
+use crate::machine::SCRIPT;
 use crate::machine::TAPE;
 use crate::machine::VRAM;
 use crate::machine::WORK_RAM;
@@ -12,8 +13,11 @@ use crate::machine::lent;
 use crate::picture::line_turn;
 use crate::picture::parts_turn;
 use crate::picture::row_turn;
+use crate::script::run_turn;
+use crate::script::write_turn;
 use crate::setup::set_buffers;
 use crate::setup::set_machine;
+use crate::setup::set_script;
 use crate::turn::Turn;
 use crate::turn::answered;
 use crate::turn::silent;
@@ -25,7 +29,7 @@ fn back_turn(m: Machine, k: Command, vram: &mut [u8], tape: &[u8]) -> Turn {
     answered(m, k.op, r)
 }
 
-// Ops 1 to 16 on what is lent of the buffers.
+// Ops 1 to 17 on what is lent of the buffers.
 fn call<'a>(
     m: Machine,
     k: Command,
@@ -33,6 +37,7 @@ fn call<'a>(
     cartridge: &'a [u8],
     ram: &'a [u8],
     tape: &mut [u8],
+    script: &[u8],
 ) -> Turn {
     let op = k.op;
     match op {
@@ -41,11 +46,12 @@ fn call<'a>(
         11 => row_turn(m, k, vram),
         12 => parts_turn(m, k),
         15..=16 => answered(m, op, timing_read(m, op)),
+        17 => run_turn(m, vram, cartridge, ram, script),
         _ => answered(m, op, chip_call(m, k, vram, cartridge, ram, tape)),
     }
 }
 
-// Ops 1 to 16: each buffer is lent at its length.
+// Ops 1 to 17: each buffer is lent at its length.
 fn lent_call<'a>(
     m: Machine,
     k: Command,
@@ -53,11 +59,13 @@ fn lent_call<'a>(
     ram: &'a [u8],
     cartridge: &'a [u8],
     tape: &mut [u8],
+    script: &[u8],
 ) -> Turn {
     let v = lent(m.lengths[VRAM], vram.len());
     let r = lent(m.lengths[WORK_RAM], ram.len());
     let c = lent(m.lengths[CARTRIDGE], cartridge.len());
     let t = lent(m.lengths[TAPE], tape.len());
+    let n = lent(m.lengths[SCRIPT], script.len());
     call(
         m,
         k,
@@ -65,6 +73,7 @@ fn lent_call<'a>(
         &cartridge[..c],
         &ram[..r],
         &mut tape[..t],
+        &script[..n],
     )
 }
 
@@ -99,10 +108,15 @@ pub fn turn(
     ram: &mut [u8],
     cartridge: &mut [u8],
     tape: &mut [u8],
+    script: &mut [u8],
 ) -> Turn {
     let op = k.op;
     match op {
-        1..=16 => lent_call(m, k, vram, ram, cartridge, tape),
-        _ => set_up(m, k, vram, ram, cartridge, tape),
+        1..=17 => lent_call(m, k, vram, ram, cartridge, tape, script),
+        18 => write_turn(m, k, script),
+        _ => {
+            set_script(k, script);
+            set_up(m, k, vram, ram, cartridge, tape)
+        }
     }
 }

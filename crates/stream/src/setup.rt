@@ -7,6 +7,7 @@ use crate::machine::CARTRIDGE;
 use crate::machine::Machine;
 use crate::machine::PIXELS;
 use crate::machine::ROW;
+use crate::machine::SCRIPT;
 use crate::machine::TAPE;
 use crate::machine::VRAM;
 use crate::machine::WORK_RAM;
@@ -58,6 +59,13 @@ pub(crate) fn set_buffers(
         CARTRIDGE => set_bytes(k, cartridge),
         TAPE => set_bytes(k, tape),
         _ => {}
+    }
+}
+
+// What a command does to the script.
+pub(crate) fn set_script(k: Command, script: &mut [u8]) {
+    if k.b as usize == SCRIPT {
+        set_bytes(k, script);
     }
 }
 

@@ -14,3 +14,18 @@ pub struct LentTapeAnswer {
     pub result: u32,
     pub count: usize,
 }
+
+// Of a script that was run: the number, and the place of the item that was refused or how many items there are.
+#[repr(C)]
+pub struct LentScriptAnswer {
+    pub number: u8,
+    pub place: usize,
+}
+
+// Of one item's call: the number and the result, and the byte where the script goes on.
+#[repr(C)]
+pub struct LentItemAnswer {
+    pub number: u8,
+    pub result: u32,
+    pub next: usize,
+}

@@ -6,5 +6,6 @@ pub mod fresh;
 pub mod line;
 pub mod ports;
 pub mod run;
+pub mod script;
 pub mod tape;
 pub mod timing;

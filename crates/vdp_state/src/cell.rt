@@ -15,7 +15,7 @@ pub fn byte_at(bytes: &[u8], i: usize) -> u8
     if i < bytes.len() { bytes[i] } else { 0 }
 }
 
-fn put_byte(bytes: &mut [u8], i: usize, b: u8)
+pub fn put_byte(bytes: &mut [u8], i: usize, b: u8)
     ensures { λ _. ⌜ now (bytes .exit) ≡ set (now (bytes .entry)) i b ⌝ }
 {
     if i < bytes.len() {

@@ -63,6 +63,11 @@ impl Flags {
         }
     }
 
+    /// Calls that are not followed may have changed the flags.
+    pub fn forget(&mut self) {
+        self.last = Last::Other;
+    }
+
     pub fn count(&mut self, tally: &mut Tally, before: &Before, after: &Machine, number: Answer) {
         let (then, now) = (flags(&before.machine.state), flags(&after.state));
         match (before.command.op, number) {
@@ -141,6 +146,8 @@ mod tests {
         let given = "status read shows a flag that a step back gave back";
         assert_eq!(met(&[SET, READ]), names(&[]));
         assert_eq!(met(&[SET, READ, READ]), names(&[again]));
+        // A script between them may have set the flags and cleared them.
+        assert_eq!(met(&[SET, READ, (17, 0, 0), READ]), names(&[]));
         assert_eq!(met(&[RECORD, SET, READ, READ, (10, 0, 1)]), names(&[again]));
         assert_eq!(met(&[RECORD, SET, READ, (10, 0, 1)]), names(&[over]));
         assert_eq!(met(&[RECORD, SET, READ, (10, 0, 1), READ]), names(&[given, over]));

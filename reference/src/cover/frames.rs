@@ -104,7 +104,7 @@ impl Frames {
     }
 
     /// Registers that change inside a frame, and the records.
-    fn follow(&mut self, before: &Before, after: &Machine) {
+    pub fn follow(&mut self, before: &Before, after: &Machine) {
         if let Some(frame) = &mut self.running {
             for (place, now) in asked(after).iter().enumerate() {
                 frame.changed[place] |= frame.registers[place] != *now;
@@ -197,7 +197,9 @@ fn lines_back(tally: &mut Tally, before: &Before, after: &Machine) {
 #[cfg(test)]
 mod tests {
     use super::*;
-    use crate::cover::tests::met_of;
+    use crate::cover::script::tests::run_of;
+    use crate::cover::tests::{met_by, met_of};
+    use crate::script::Item;
 
     /// Which of this file's rules these commands meet: op, a, c.
     fn met(commands: &[(u8, u8, u32)]) -> Vec<String> {
@@ -218,6 +220,15 @@ mod tests {
         assert_eq!(met(&lines[1..]), names(&[]));
         let by_hand = [&lines[..100], &[(32, 13, 99)], &lines[100..]].concat();
         assert_eq!(met(&by_hand), names(&[]));
+    }
+
+    /// A script may write a register inside a frame.
+    #[test]
+    fn a_frame_with_a_script_inside() {
+        let lines = vec![Command { op: 13, a: 0, b: 0, c: 0 }; 131];
+        let script = run_of(&[Item::ControlWrite(0x8A05)]);
+        let expected = ["whole frame of lines", "whole frame with register 10 changed inside"];
+        assert_eq!(met_by(rules(), &[&lines[..], &script, &lines].concat()), names(&expected));
     }
 
     #[test]

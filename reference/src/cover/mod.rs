@@ -1,6 +1,7 @@
 //! Which answers and rules streams meet, and which they never meet.
 //! The counts come from looking at each call from outside, before and after it; for the sprite
-//! flags, for used up, for cut runs and for frames also from what the calls before it did.
+//! flags, for used up, for cut runs and for frames also from what the calls before it did. The
+//! calls of a script are counted by themselves.
 
 mod columns;
 mod cuts;
@@ -12,6 +13,7 @@ mod ports;
 mod refused;
 mod refused_timing;
 mod runs;
+mod script;
 mod shading;
 mod timing;
 mod used_up;
@@ -29,7 +31,7 @@ use frames::Frames;
 use used_up::UsedUp;
 
 /// The answers that each op may give (definition, Numbers a call may answer).
-const ANSWERS: [(u8, &[Answer]); 16] = [
+const ANSWERS: [(u8, &[Answer]); 18] = [
     (1, &[0, 1, 2, 3, 6]),
     (2, &[0, 1, 2, 3, 6]),
     (3, &[0, 1, 2, 3, 6]),
@@ -46,6 +48,8 @@ const ANSWERS: [(u8, &[Answer]); 16] = [
     (14, &[0, 1, 2, 6, 10]),
     (15, &[0, 1]),
     (16, &[0, 1]),
+    (17, &[0, 1, 2, 3, 4, 5, 7, 11]),
+    (18, &[0, 2]),
 ];
 
 /// How often each answer and each rule was met.
@@ -67,7 +71,7 @@ impl Tally {
         let of_lines = [lines::rules(), masking::rules(), used_up::rules(), shading::rules()];
         let of_timing = [timing::rules(), refused_timing::rules()];
         let more_calls = [flags::rules(), cuts::rules(), frames::rules()];
-        for list in [&one_call[..], &of_lines, &of_timing, &more_calls] {
+        for list in [&one_call[..], &of_lines, &of_timing, &more_calls, &[script::rules()]] {
             tally.rules.extend(list.concat().into_iter().map(|rule| (rule, 0)));
         }
         tally
@@ -93,11 +97,9 @@ impl Tally {
             if command.calls() {
                 self.call(&mut machine, &mut past, command);
             } else if command.op != 48 {
+                script::items::count_silent(self, &machine, command);
                 machine.apply(command);
-                past.flags.set_up(command);
-                past.cuts.set_up();
-                past.frames.set_up(command);
-                past.used_up.set_up(command);
+                past.set_up(command);
             }
         }
     }
@@ -107,32 +109,46 @@ impl Tally {
         let line = machine.apply(command).unwrap_or_default();
         let number = number_in(&line).unwrap_or(0);
         *self.answers.entry((command.op, number)).or_insert(0) += 1;
-        past.flags.count(self, &before, machine, number);
-        past.cuts.count(self, &before, machine, number);
-        past.frames.count(self, &before, machine, number);
-        past.used_up.count(self, &before, machine, number);
+        match command.op {
+            17 => {
+                past.script(&before, machine);
+                script::count(self, &before, machine, number);
+            }
+            18 => {
+                past.cuts.set_up();
+                script::items::count(self, &before, number);
+            }
+            _ => {
+                past.count(self, &before, machine, number);
+                self.one_call(&before, machine, number);
+            }
+        }
+    }
+
+    /// Ops 1 to 16.
+    fn one_call(&mut self, before: &Before, machine: &Machine, number: Answer) {
         if number != 0 {
-            refused::count(self, &before, number);
-            refused_timing::count(self, &before, number);
-            shading::count_refused(self, &before, number);
+            refused::count(self, before, number);
+            refused_timing::count(self, before, number);
+            shading::count_refused(self, before, number);
             return;
         }
-        match command.op {
-            1..=6 | 9 | 12 => ports::count(self, &before),
-            7 => runs::count_run(self, &before),
+        match before.command.op {
+            1..=6 | 9 | 12 => ports::count(self, before),
+            7 => runs::count_run(self, before),
             8 => {
-                lines::count(self, &before, machine);
-                masking::count(self, &before);
-                shading::count(self, &before, machine);
+                lines::count(self, before, machine);
+                masking::count(self, before);
+                shading::count(self, before, machine);
             }
-            10 => runs::count_back(self, &before, machine),
-            11 => lines::count_row(self, &before),
+            10 => runs::count_back(self, before, machine),
+            11 => lines::count_row(self, before),
             _ => (),
         }
-        timing::count(self, &before);
-        runs::count_most_remaining(self, &before);
+        timing::count(self, before);
+        runs::count_most_remaining(self, before);
         if before.taped() {
-            self.meet(&recorded(command.op));
+            self.meet(&recorded(before.command.op));
         }
     }
 
@@ -169,6 +185,30 @@ struct Past {
     cuts: Cuts,
     frames: Frames,
     used_up: UsedUp,
+}
+
+impl Past {
+    fn count(&mut self, tally: &mut Tally, before: &Before, after: &Machine, number: Answer) {
+        self.flags.count(tally, before, after, number);
+        self.cuts.count(tally, before, after, number);
+        self.frames.count(tally, before, after, number);
+        self.used_up.count(tally, before, after, number);
+    }
+
+    fn set_up(&mut self, command: &Command) {
+        self.flags.set_up(command);
+        self.cuts.set_up();
+        self.frames.set_up(command);
+        self.used_up.set_up(command);
+    }
+
+    /// A script makes many calls, and which of them was the last to touch a flag is not followed.
+    fn script(&mut self, before: &Before, after: &Machine) {
+        self.flags.forget();
+        self.cuts.set_up();
+        self.frames.follow(before, after);
+        self.used_up.forget();
+    }
 }
 
 /// The machine as a call found it, and the call.

@@ -134,6 +134,11 @@ impl UsedUp {
         }
     }
 
+    /// Calls that are not followed may have changed the flag.
+    pub fn forget(&mut self) {
+        self.last = Last::Other;
+    }
+
     pub fn count(&mut self, tally: &mut Tally, before: &Before, after: &Machine, number: Answer) {
         let (then, now) = (before.machine.state.used_up, after.state.used_up);
         let changed = then != now;
@@ -297,8 +302,9 @@ mod tests {
         assert_met(&[USES_UP, X_0], &[JUST, after(Last::SetByLine)]);
         let twice = [JUST, after(Last::SetByLine), after(Last::ClearedByLine)];
         assert_met(&[USES_UP, X_0, X_0], &twice);
-        // Set by hand, the flag says nothing about the line before.
+        // Set by hand, the flag says nothing about the line before, and neither after a script.
         assert_met(&[USES_UP, SET, X_0], &[JUST]);
+        assert_met(&[USES_UP, (17, 0, 0, 0), X_0], &[JUST]);
     }
 
     /// The ten sprites are at the same place and collide.

@@ -67,7 +67,7 @@ pub fn transfer(maker: &mut Maker) {
     runs(maker);
 }
 
-fn begin_transfer(maker: &mut Maker, source: u32, length: u16) {
+pub fn begin_transfer(maker: &mut Maker, source: u32, length: u16) {
     begin(maker);
     set_length(maker, length);
     let [_, page, middle, low] = (source / 2).to_be_bytes();
@@ -87,7 +87,7 @@ pub fn fill_dma(maker: &mut Maker) {
 }
 
 /// A fill up to its first word, with another call now and then while it waits.
-fn begin_fill(maker: &mut Maker, length: u16) {
+pub fn begin_fill(maker: &mut Maker, length: u16) {
     begin(maker);
     set_length(maker, length);
     let mode = 0x80 | (maker.byte() & 0x3F);
@@ -118,7 +118,7 @@ pub fn copy(maker: &mut Maker) {
 }
 
 /// Source and target often overlap, either way round.
-fn begin_copy(maker: &mut Maker, length: u16) {
+pub fn begin_copy(maker: &mut Maker, length: u16) {
     begin(maker);
     set_length(maker, length);
     let address = maker.address();

@@ -136,7 +136,7 @@ fn holes(maker: &mut Maker) {
 }
 
 /// Lines at the edges and inside.
-fn lines(maker: &mut Maker) {
+pub fn lines(maker: &mut Maker) {
     for _ in 0..1 + maker.below(4) {
         let inside = maker.below(224);
         let line =
@@ -283,28 +283,31 @@ fn rows(maker: &mut Maker) {
     maker.colour(word, register0);
 }
 
+/// Registers with bytes under which a line is not modelled: each reason of answer 4 alone.
+pub const UNMODELLED: [(u16, u8); 18] = [
+    (0, 0x05),
+    (0, 0x0C),
+    (1, 0xC4),
+    (1, 0x45),
+    (1, 0x40),
+    (1, 0x00),
+    (12, 0x80),
+    (12, 0x01),
+    (12, 0x83),
+    (12, 0x85),
+    (12, 0x8B),
+    (12, 0x0C),
+    (16, 0x02),
+    (16, 0x20),
+    (16, 0x31),
+    (16, 0x13),
+    (16, 0x33),
+    (16, 0x22),
+];
+
 /// Each reason of answer 4 alone, then as it was.
 fn unmodelled(maker: &mut Maker) {
-    let (register, value) = maker.pick(&[
-        (0, 0x05),
-        (0, 0x0C),
-        (1, 0xC4),
-        (1, 0x45),
-        (1, 0x40),
-        (1, 0x00),
-        (12, 0x80),
-        (12, 0x01),
-        (12, 0x83),
-        (12, 0x85),
-        (12, 0x8B),
-        (12, 0x0C),
-        (16, 0x02),
-        (16, 0x20),
-        (16, 0x31),
-        (16, 0x13),
-        (16, 0x33),
-        (16, 0x22),
-    ]);
+    let (register, value) = maker.pick(&UNMODELLED);
     let old = maker.machine.state.registers[usize::from(register)];
     set(maker, register, value);
     lines(maker);

@@ -1,6 +1,8 @@
-//! Streams of everything together: plain and recorded calls, drawing, refusals.
+//! Streams of everything together: plain and recorded calls, drawing, refusals, scripts.
 
-use super::{dma, drawing, masking, ports, refusals, shading, tape, timing, Maker, USED_UP};
+use super::{
+    dma, drawing, masking, ports, refusals, script, shading, tape, timing, Maker, USED_UP,
+};
 use crate::replay::{CARTRIDGE, TAPE, WORK_RAM};
 
 pub fn fill(maker: &mut Maker) {
@@ -15,7 +17,7 @@ pub fn fill(maker: &mut Maker) {
 }
 
 fn episode(maker: &mut Maker) {
-    match maker.below(31) {
+    match maker.below(34) {
         0..=3 => ports::episode(maker),
         4..=6 => tape::episode(maker),
         7..=13 => drawing_episode(maker),
@@ -35,12 +37,13 @@ fn episode(maker: &mut Maker) {
         21 => ports::by_hand(maker),
         22 => brim(maker),
         23..=25 => timing::episode(maker),
-        26 => masking::episode(maker),
-        27 => shading::episode(maker),
-        _ => {
+        26 | 27 => masking::episode(maker),
+        28 | 29 => shading::episode(maker),
+        30..=32 => {
             let steps = maker.below(maker.machine.count.min(40) + 1);
             maker.back(steps);
         }
+        _ => scripts(maker),
     }
     if maker.once_in(2) {
         maker.calm();
@@ -57,6 +60,12 @@ fn drawing_episode(maker: &mut Maker) {
         let steps = maker.below(maker.machine.count.min(6) + 1);
         maker.back(steps);
     }
+}
+
+/// A script mostly ends what a book follows, so the tape is rewound for another to begin.
+fn scripts(maker: &mut Maker) {
+    script::episode(maker);
+    tape::rewind(maker);
 }
 
 /// Recorded from a count of 0 on, so that a book can begin.

@@ -7,11 +7,14 @@ mod masking;
 mod mix;
 mod ports;
 mod refusals;
+pub mod script;
 mod shading;
 mod tape;
 mod timing;
 
 use crate::replay::{Command, Machine};
+use crate::script::Item;
+use script::items::Rehearsal;
 
 #[derive(Clone, Copy, Debug, PartialEq, Eq)]
 pub enum Kind {
@@ -22,10 +25,11 @@ pub enum Kind {
     Timing,
     Drawing,
     Mix,
+    Script,
 }
 
 impl Kind {
-    pub const ALL: [(Kind, &'static str); 7] = [
+    pub const ALL: [(Kind, &'static str); 8] = [
         (Kind::Ports, "ports"),
         (Kind::Dma, "dma"),
         (Kind::Refusals, "refusals"),
@@ -33,6 +37,7 @@ impl Kind {
         (Kind::Timing, "timing"),
         (Kind::Drawing, "drawing"),
         (Kind::Mix, "mix"),
+        (Kind::Script, "script"),
     ];
 
     pub fn named(name: &str) -> Option<Kind> {
@@ -52,6 +57,7 @@ pub fn stream(seed: u64, kind: Kind, count: usize) -> Vec<Command> {
         Kind::Timing => timing::fill(&mut maker),
         Kind::Drawing => drawing::fill(&mut maker),
         Kind::Mix => mix::fill(&mut maker),
+        Kind::Script => script::fill(&mut maker),
     }
     maker.finish()
 }
@@ -66,6 +72,8 @@ pub struct Maker {
     commands: Vec<Command>,
     count: usize,
     calls: u32,
+    /// While this is there, calls are kept as items and there are no commands.
+    rehearsal: Option<Rehearsal>,
     /// Follows the commands, so that the maker knows where the chip is.
     pub machine: Machine,
 }
@@ -77,6 +85,7 @@ impl Maker {
             commands: Vec::new(),
             count,
             calls: 0,
+            rehearsal: None,
             machine: Machine::new(),
         }
     }
@@ -99,8 +108,8 @@ impl Maker {
         self.add(command);
         if command.calls() {
             self.calls += 1;
-            // The next line would hide this one's pixels, so each line and row is looked at.
-            let pixels = op == 8 || op == 11;
+            // The next line would hide this one's pixels: each line, row and script is looked at.
+            let pixels = matches!(op, 8 | 11 | 17);
             if self.calls % CALLS_A_DIGEST == 0 || pixels {
                 self.digests();
             }
@@ -112,6 +121,10 @@ impl Maker {
     }
 
     fn add(&mut self, command: Command) {
+        if self.rehearsal.is_some() {
+            self.keep(&command);
+            return;
+        }
         if self.full() {
             return;
         }
@@ -219,6 +232,16 @@ impl Maker {
 
     pub fn level(&mut self) {
         self.emit(16, 0, 0, 0);
+    }
+
+    pub fn run_script(&mut self) {
+        self.emit(17, 0, 0, 0);
+    }
+
+    /// An item without a content has any, which is not looked at.
+    pub fn write_item(&mut self, item: Item, at: u32) {
+        let any = self.word();
+        self.emit(18, item.kind(), item.content().unwrap_or(any), at);
     }
 }
 

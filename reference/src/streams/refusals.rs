@@ -4,7 +4,7 @@ use super::{
     masking, timing, Maker, ADDRESS, CODE, COLOUR, DMA_KIND, FILL_BYTE, LINE, PENDING, REGISTER,
     REMAINING, SCROLL, SOURCE, USED_UP,
 };
-use crate::replay::{CARTRIDGE, VRAM, WORK_RAM};
+use crate::replay::{CARTRIDGE, PIXELS, VRAM, WORK_RAM};
 use crate::state::{COPY, FILL, TRANSFER, UNITS_MOST};
 
 pub fn fill(maker: &mut Maker) {
@@ -187,17 +187,24 @@ pub fn call(maker: &mut Maker) {
     }
 }
 
+/// Lengths as at the start.
+pub fn mend_lengths(maker: &mut Maker) {
+    let machine = &maker.machine;
+    for (buffer, length, right) in [
+        (VRAM, machine.vram.length, 65_536),
+        (WORK_RAM, machine.work_ram.length, 65_536),
+        (CARTRIDGE, machine.cartridge.length, 131_072),
+        (PIXELS, machine.pixels.length, 320),
+    ] {
+        if length != right {
+            maker.length(buffer, right as u32);
+        }
+    }
+}
+
 /// Lengths and state as at the start.
 pub fn mend(maker: &mut Maker) {
-    if maker.machine.vram.length != 65_536 {
-        maker.length(VRAM, 65_536);
-    }
-    if maker.machine.work_ram.length != 65_536 {
-        maker.length(WORK_RAM, 65_536);
-    }
-    if maker.machine.cartridge.length != 131_072 {
-        maker.length(CARTRIDGE, 131_072);
-    }
+    mend_lengths(maker);
     let pal = maker.once_in(2);
     maker.fresh(pal);
 }

@@ -6,12 +6,12 @@ use Rattle.cases.proofs.play.Statement.{statement}
 use Rattle.cases.proofs.play.Tie as tie
 
 abbrev Inv-loop : tie.InvT-loop
-Inv-loop text vram₀ ram₀ cartridge₀ tape₀ c₀ left₀ vram ram cartridge tape c left =
+Inv-loop text vram₀ ram₀ cartridge₀ tape₀ script₀ c₀ left₀ vram ram cartridge tape script c left =
     (length vram ≡ length vram₀) × (length ram ≡ length ram₀) × (length cartridge ≡ length cartridge₀)
-    × (length tape ≡ length tape₀)
+    × (length tape ≡ length tape₀) × (length script ≡ length script₀)
 
 abbrev μ-loop : tie.MeasureT-loop
-μ-loop text vram₀ ram₀ cartridge₀ tape₀ c₀ left₀ vram ram cartridge tape c left = left
+μ-loop text vram₀ ram₀ cartridge₀ tape₀ script₀ c₀ left₀ vram ram cartridge tape script c left = left
 
 pub play-spec : {M : Type 1} → statement M
 play-spec =
@@ -23,6 +23,7 @@ play-spec =
     (λ c. search needs)
     (λ c. search needs)
     (λ c κs. search needs)
+    (λ c. search needs)
     (λ c. search needs)
     (λ c. search needs)
     (λ c. search needs)

@@ -17,10 +17,15 @@ slice-aggregate-call-3 c = sym (length-take-le _ _ (search needs))
 slice-aggregate-call-4 : tie.Need-slice-aggregate-call-4
 slice-aggregate-call-4 c = sym (length-take-le _ _ (search needs))
 
+slice-aggregate-call-5 : tie.Need-slice-aggregate-call-5
+slice-aggregate-call-5 c = sym (length-take-le _ _ (search needs))
+
 pub lent-call-spec : {M : Type 1} → statement M
 lent-call-spec =
     tie.close
     (tie.spec
+    (λ c. search needs)
+    (λ c κs. search needs)
     (λ c. search needs)
     (λ c κs. search needs)
     (λ c. search needs)
@@ -35,6 +40,7 @@ lent-call-spec =
     slice-aggregate-call-3
     (λ c. search needs)
     slice-aggregate-call-4
+    slice-aggregate-call-5
     (λ c κs. search needs)
     (λ c. search needs)
     (λ c. search needs)

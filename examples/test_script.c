@@ -1,0 +1,283 @@
+/* Tests of scripts. Random items are kept in a list beside the script that is written of them; what must come is told
+ * from that list, by plain calls and by counting bytes, and never by reading the script. */
+#include "testing.h"
+
+enum { ITEMS = 40, SCRIPT_SIZE = KUTHBAREEN_FIRST_ITEM + ITEMS * KUTHBAREEN_MOST_ITEM_SIZE, KINDS = 7 };
+
+typedef struct {
+    uint8_t kind;
+    uint16_t content;
+} item;
+
+/* All that a script's calls are lent and may change. */
+typedef struct {
+    kuthbareen_state chip;
+    uint8_t vram[KUTHBAREEN_VRAM_SIZE];
+    uint8_t pixels[KUTHBAREEN_LINE_SIZE];
+} board;
+
+_Static_assert(sizeof(kuthbareen_script_answer) == 16, "script answer");
+_Static_assert(offsetof(kuthbareen_script_answer, place) == 8, "place");
+_Static_assert(sizeof(kuthbareen_item_answer) == 16, "item answer");
+_Static_assert(offsetof(kuthbareen_item_answer, result) == 4, "result");
+_Static_assert(offsetof(kuthbareen_item_answer, next) == 8, "next");
+_Static_assert(sizeof(kuthbareen_item_written) == 16, "item written");
+_Static_assert(offsetof(kuthbareen_item_written, next) == 8, "next");
+
+static board ours, theirs;
+static item list[ITEMS];
+static uint8_t script[SCRIPT_SIZE], ram[KUTHBAREEN_RAM_SIZE], cartridge[4096];
+
+static uint32_t seed = 1;
+
+static unsigned below(unsigned n)
+{
+    seed = seed * 1664525 + 1013904223;
+    return (seed >> 16) % n;
+}
+
+static size_t size_of(item i)
+{
+    return i.kind == 3 || i.kind == 4 || i.kind == 7 ? 3 : 5;
+}
+
+/* Where an item of the list begins in the script; for their number, where the script ends. */
+static size_t byte_of(unsigned place)
+{
+    size_t at = KUTHBAREEN_FIRST_ITEM;
+    unsigned i;
+    for (i = 0; i < place; i++)
+        at += size_of(list[i]);
+    return at;
+}
+
+/* Control words of use: registers 1, 12, 15, 19 and 23, commands to write and read, with DMA or without. */
+static uint16_t control_word(void)
+{
+    static const uint16_t words[] = {0x8114, 0x8154, 0x8174, 0x8C81, 0x8F02, 0x8F01, 0x9305, 0x9400, 0x9780, 0x97C0,
+                                     0x9700, 0x4000, 0x0000, 0xC000, 0x0080, 0x00C0, 0x0090, 0x0010, 0x5F00, 0x8104};
+    return words[below(sizeof words / sizeof words[0])];
+}
+
+static item some_item(void)
+{
+    item i = {(uint8_t)(1 + below(KINDS)), 0};
+    if (i.kind == KUTHBAREEN_ITEM_CONTROL_WORD || below(3) == 0)
+        i.kind = KUTHBAREEN_ITEM_CONTROL_WORD, i.content = control_word();
+    else if (i.kind == KUTHBAREEN_ITEM_LINE)
+        i.content = (uint16_t)below(230);
+    else
+        i.content = (uint16_t)below(65536);
+    return i;
+}
+
+static void begin(board *b)
+{
+    unsigned i;
+    b->chip = kuthbareen_fresh(false);
+    b->chip.registers[1] = 0x14;
+    for (i = 0; i < sizeof b->vram; i++)
+        b->vram[i] = (uint8_t)(i * 7);
+    memset(b->pixels, 0xEE, sizeof b->pixels);
+}
+
+/* The plain call of an item. */
+static kuthbareen_answer plain(board *b, item i)
+{
+    switch (i.kind) {
+    case KUTHBAREEN_ITEM_CONTROL_WORD: return kuthbareen_control_write(&b->chip, i.content);
+    case KUTHBAREEN_ITEM_DATA_WORD: return kuthbareen_data_write(&b->chip, b->vram, sizeof b->vram, i.content);
+    case KUTHBAREEN_ITEM_DATA_READ: return kuthbareen_data_read(&b->chip, b->vram, sizeof b->vram);
+    case KUTHBAREEN_ITEM_STATUS_READ: return kuthbareen_status_read(&b->chip);
+    case KUTHBAREEN_ITEM_RUN:
+        return kuthbareen_run(&b->chip, b->vram, sizeof b->vram, cartridge, sizeof cartridge, ram, sizeof ram,
+                              i.content);
+    case KUTHBAREEN_ITEM_LINE:
+        return kuthbareen_line(&b->chip, b->vram, sizeof b->vram, i.content, b->pixels, sizeof b->pixels);
+    default: return kuthbareen_new_frame(&b->chip);
+    }
+}
+
+static kuthbareen_script_answer run(board *b, size_t size)
+{
+    return kuthbareen_run_script(&b->chip, b->vram, sizeof b->vram, cartridge, sizeof cartridge, ram, sizeof ram,
+                                 b->pixels, sizeof b->pixels, script, size);
+}
+
+static kuthbareen_item_answer step(board *b, size_t size, size_t at)
+{
+    return kuthbareen_script_item(&b->chip, b->vram, sizeof b->vram, cartridge, sizeof cartridge, ram, sizeof ram,
+                                  b->pixels, sizeof b->pixels, script, size, at);
+}
+
+static void same_boards(const char *what)
+{
+    expect(what, (unsigned long)same_state(&ours.chip, &theirs.chip), 1);
+    expect(what, (unsigned long)memcmp(ours.vram, theirs.vram, sizeof ours.vram), 0);
+    expect(what, (unsigned long)memcmp(ours.pixels, theirs.pixels, sizeof ours.pixels), 0);
+}
+
+/* Writes so many random items, keeps them in the list, and gives the script's size. */
+static size_t written(unsigned items)
+{
+    size_t at = KUTHBAREEN_FIRST_ITEM;
+    unsigned i;
+    script[0] = KUTHBAREEN_SCRIPT_VERSION;
+    for (i = 0; i < items; i++) {
+        list[i] = some_item();
+        kuthbareen_item_written w = kuthbareen_write_item(script, sizeof script, at, list[i].kind, list[i].content);
+        expect("written", w.number, KUTHBAREEN_DONE);
+        at += size_of(list[i]);
+        expect("byte after it", w.next, at);
+    }
+    return at;
+}
+
+/* A script is its plain calls, as a whole and item by item, up to the first that is refused. */
+static unsigned as_plain_calls(unsigned items)
+{
+    size_t size = written(items), at = KUTHBAREEN_FIRST_ITEM;
+    unsigned place;
+    uint8_t number = KUTHBAREEN_DONE;
+    begin(&ours);
+    begin(&theirs);
+    for (place = 0; place < items && number == KUTHBAREEN_DONE; place++) {
+        kuthbareen_answer a = plain(&theirs, list[place]);
+        kuthbareen_item_answer b = step(&ours, size, at);
+        number = a.number;
+        expect("number of an item", b.number, number);
+        expect("result of an item", b.result, a.result);
+        at = number == KUTHBAREEN_DONE ? byte_of(place + 1) : byte_of(place);
+        expect("next byte", b.next, at);
+    }
+    same_boards("item by item");
+    begin(&ours);
+    kuthbareen_script_answer whole = run(&ours, size);
+    expect("number of a script", whole.number, number);
+    expect("place", whole.place, number == KUTHBAREEN_DONE ? items : place - 1);
+    same_boards("as a whole");
+    return number;
+}
+
+/* What a script that can't be run answers and leaves. */
+static void refused(const char *what, size_t size, unsigned place)
+{
+    kuthbareen_script_answer judged = kuthbareen_judge_script(script, size);
+    expect(what, judged.number, KUTHBAREEN_BAD_SCRIPT);
+    expect(what, judged.place, place);
+    begin(&ours);
+    begin(&theirs);
+    kuthbareen_script_answer answer = run(&ours, size);
+    expect(what, answer.number, KUTHBAREEN_BAD_SCRIPT);
+    expect(what, answer.place, place);
+    same_boards(what);
+}
+
+/* Cut at every byte: well formed exactly where an item ends. */
+static void cut(unsigned items)
+{
+    size_t size = written(items), at;
+    unsigned place = 0;
+    refused("nothing at all", 0, 0);
+    for (at = KUTHBAREEN_FIRST_ITEM; at <= size; at++) {
+        kuthbareen_script_answer judged = kuthbareen_judge_script(script, at);
+        if (at == byte_of(place + 1) && place < items)
+            place++;
+        if (at == byte_of(place)) {
+            expect("whole items", judged.number, KUTHBAREEN_DONE);
+            expect("how many", judged.place, place);
+            expect("no item at the end", step(&ours, at, at).number, KUTHBAREEN_BAD_SCRIPT);
+        } else {
+            refused("cut", at, place);
+        }
+    }
+}
+
+/* Each byte changed, one bit after the other: a length is never right then, a kind only where it has the same length. */
+static void changed(unsigned items)
+{
+    size_t size = written(items), at;
+    unsigned place, bit;
+    for (place = 0; place < items; place++)
+        for (at = byte_of(place); at < byte_of(place + 1); at++)
+            for (bit = 0; bit < 8; bit++) {
+                size_t offset = at - byte_of(place);
+                script[at] ^= (uint8_t)(1 << bit);
+                item other = {script[at], 0};
+                bool same = offset > 2 || (offset == 2 && other.kind >= 1 && other.kind <= KINDS &&
+                                           size_of(other) == size_of(list[place]));
+                if (same)
+                    expect("well formed", kuthbareen_judge_script(script, size).number, KUTHBAREEN_DONE);
+                else
+                    refused("changed", size, place);
+                script[at] ^= (uint8_t)(1 << bit);
+            }
+    script[0] = 2;
+    refused("version 2", size, 0);
+}
+
+/* Items at every byte of a short buffer and behind it, and kinds that there are not. */
+static void rooms(void)
+{
+    enum { ROOM = 9 };
+    static const size_t far[] = {SIZE_MAX, SIZE_MAX - 1, SIZE_MAX - 3, SIZE_MAX - 4, SIZE_MAX / 2};
+    uint8_t buffer[ROOM], before[ROOM];
+    size_t at, size;
+    unsigned kind, i;
+    for (kind = 0; kind < 256; kind++)
+        for (at = 0; at < ROOM + 3 + sizeof far / sizeof far[0]; at++)
+            for (size = 0; size <= ROOM; size++) {
+                size_t byte = at < ROOM + 3 ? at : far[at - ROOM - 3];
+                bool known = kind >= 1 && kind <= KINDS;
+                size_t bytes = size_of((item){(uint8_t)kind, 0});
+                bool fits = known && byte <= size && bytes <= size - byte;
+                memset(buffer, 0xEE, ROOM);
+                memcpy(before, buffer, ROOM);
+                kuthbareen_item_written w = kuthbareen_write_item(buffer, size, byte, (uint8_t)kind, 0x12AB);
+                if (fits) {
+                    const uint8_t wanted[5] = {0, (uint8_t)(bytes - 2), (uint8_t)kind, 0x12, 0xAB};
+                    for (i = 0; i < bytes; i++)
+                        before[byte + i] = wanted[i];
+                }
+                expect("room", w.number,
+                       fits ? KUTHBAREEN_DONE : known ? KUTHBAREEN_BAD_BUFFER : KUTHBAREEN_BAD_SCRIPT);
+                expect("byte after it", w.next, fits ? byte + bytes : 0);
+                expect("no other byte", (unsigned long)memcmp(buffer, before, ROOM), 0);
+            }
+}
+
+/* A state and buffers that are wrong are refused by the calls, and only by those that ask. */
+static void bad_boards(void)
+{
+    size_t size = written(0);
+    begin(&ours);
+    ours.chip.control.port.code = 64;
+    expect("no items, bad state", run(&ours, size).number, KUTHBAREEN_DONE);
+    size = kuthbareen_write_item(script, sizeof script, size, KUTHBAREEN_ITEM_STATUS_READ, 0).next;
+    expect("bad state", run(&ours, size).number, KUTHBAREEN_BAD_STATE);
+    begin(&ours);
+    size = kuthbareen_write_item(script, sizeof script, size, KUTHBAREEN_ITEM_LINE, 0).next;
+    kuthbareen_script_answer a = kuthbareen_run_script(&ours.chip, ours.vram, sizeof ours.vram, cartridge, 0, ram, 0,
+                                                       ours.pixels, sizeof ours.pixels - 1, script, size);
+    expect("bad pixels", a.number, KUTHBAREEN_BAD_BUFFER);
+    expect("place of the line", a.place, 1);
+}
+
+int main(void)
+{
+    unsigned i, ended[12] = {0};
+    for (i = 0; i < sizeof cartridge; i++)
+        cartridge[i] = (uint8_t)(i * 11 + 3);
+    for (i = 0; i < 3000; i++)
+        ended[as_plain_calls(below(ITEMS + 1))]++;
+    expect("scripts that are done come up", ended[KUTHBAREEN_DONE] > 100, 1);
+    expect("busy ones do", ended[KUTHBAREEN_BUSY] > 100, 1);
+    expect("lines that are not there do", ended[KUTHBAREEN_NO_SUCH_PLACE] > 10, 1);
+    for (i = 0; i < 10; i++) {
+        cut(1 + below(8));
+        changed(1 + below(5));
+    }
+    rooms();
+    bad_boards();
+    return tested();
+}
