@@ -62,12 +62,14 @@ static uint16_t control_word(void)
 static item some_item(void)
 {
     item i = {(uint8_t)(1 + below(KINDS)), 0};
-    if (i.kind == KUTHBAREEN_ITEM_CONTROL_WORD || below(3) == 0)
-        i.kind = KUTHBAREEN_ITEM_CONTROL_WORD, i.content = control_word();
-    else if (i.kind == KUTHBAREEN_ITEM_LINE)
+    if (i.kind == KUTHBAREEN_ITEM_CONTROL_WORD || below(3) == 0) {
+        i.kind = KUTHBAREEN_ITEM_CONTROL_WORD;
+        i.content = control_word();
+    } else if (i.kind == KUTHBAREEN_ITEM_LINE) {
         i.content = (uint16_t)below(230);
-    else
+    } else {
         i.content = (uint16_t)below(65536);
+    }
     return i;
 }
 

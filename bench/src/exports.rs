@@ -70,6 +70,14 @@ pub struct Recorded {
     pub count: usize,
 }
 
+// What a script that is run gives.
+#[repr(C)]
+#[derive(Clone, Copy, Debug, PartialEq)]
+pub struct ScriptAnswer {
+    pub number: u8,
+    pub place: usize,
+}
+
 pub const DONE: u8 = 0;
 pub const BAD_STATE: u8 = 1;
 pub const BAD_BUFFER: u8 = 2;
@@ -80,6 +88,7 @@ pub const TAPE_FULL: u8 = 6;
 pub const SOURCE_NOT_LENT: u8 = 7;
 pub const BAD_RECORD: u8 = 8;
 pub const NOTHING_THERE: u8 = 10;
+pub const BAD_SCRIPT: u8 = 11;
 
 pub const LINE_SIZE: usize = 320;
 pub const RECORD_SIZE: usize = 32;
@@ -91,7 +100,7 @@ pub const MOST_UNITS: u32 = 65_536;
 pub const LAST_LINE: u16 = 261;
 
 mod c {
-    use super::{Answer, Recorded, State};
+    use super::{Answer, Recorded, ScriptAnswer, State};
 
     extern "C" {
         pub fn kuthbareen_fresh(pal: bool) -> State;
@@ -151,6 +160,19 @@ mod c {
             count: usize,
             k: usize,
         ) -> Recorded;
+        pub fn kuthbareen_run_script(
+            state: *mut State,
+            vram: *mut u8,
+            vram_size: usize,
+            cartridge: *const u8,
+            cartridge_size: usize,
+            ram: *const u8,
+            ram_size: usize,
+            pixels: *mut u8,
+            pixels_size: usize,
+            script: *const u8,
+            script_size: usize,
+        ) -> ScriptAnswer;
     }
 }
 
@@ -271,6 +293,33 @@ pub fn step_back(
             tape.len(),
             count,
             k,
+        )
+    }
+}
+
+// A script that no cartridge is lent to.
+pub fn run_script(
+    state: &mut State,
+    vram: &mut [u8],
+    ram: &[u8],
+    pixels: &mut [u8],
+    script: &[u8],
+) -> ScriptAnswer {
+    let cartridge: &[u8] = &[];
+    // SAFETY: as above.
+    unsafe {
+        c::kuthbareen_run_script(
+            state,
+            vram.as_mut_ptr(),
+            vram.len(),
+            cartridge.as_ptr(),
+            cartridge.len(),
+            ram.as_ptr(),
+            ram.len(),
+            pixels.as_mut_ptr(),
+            pixels.len(),
+            script.as_ptr(),
+            script.len(),
         )
     }
 }

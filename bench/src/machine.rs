@@ -16,6 +16,9 @@ const TAPE_SIZE: usize = MOST_UNITS as usize * RECORD_SIZE;
 
 pub const RECORDED_WRITES: u32 = 10_000;
 
+// As many data words as a script of 16,384 bytes can have.
+pub const SCRIPT_ITEMS: u32 = 3_276;
+
 // The lines drawn, and the sprites that were visited for each.
 #[derive(Clone, PartialEq)]
 pub struct Screen {
@@ -35,6 +38,7 @@ pub struct Machine {
     pub screen: Box<Screen>,
     pub tape: Vec<u8>,
     pub count: usize,
+    pub script: Vec<u8>,
 }
 
 impl Machine {
@@ -46,6 +50,7 @@ impl Machine {
             screen: Box::new(CLEARED),
             tape: vec![0; TAPE_SIZE],
             count: 0,
+            script: Vec::new(),
         }
     }
 
@@ -57,6 +62,7 @@ impl Machine {
         *self.screen = CLEARED;
         self.tape.fill(0);
         self.count = 0;
+        self.script.clear();
     }
 
     fn control(&mut self, words: &[u16]) {
@@ -138,6 +144,16 @@ pub fn scene(m: &mut Machine) {
 pub fn shadowed_scene(m: &mut Machine) {
     scene(m);
     m.control(&[0x8C89]);
+}
+
+// A script of data words, to be written where `data_writes` leads.
+pub fn script(m: &mut Machine) {
+    data_writes(m);
+    m.script.push(1);
+    for i in 0..SCRIPT_ITEMS {
+        let [high, low] = ((i * 5 + 1) as u16).to_be_bytes();
+        m.script.extend([0, 3, 2, high, low]);
+    }
 }
 
 // Data writes to VRAM from address 0, step 2.

@@ -1,9 +1,9 @@
 // The pieces of work: how a machine is made ready, and the work as the library and as plain Rust do it.
 use std::hint::black_box;
 
-use crate::exports::{self, Answer, Recorded, State, DONE, LINE_SIZE, MOST_UNITS};
-use crate::machine::{self, Machine, Memory, Screen, LINES, RECORDED_WRITES};
-use crate::{plain, plain_line, plain_tape};
+use crate::exports::{self, Answer, Recorded, ScriptAnswer, State, DONE, LINE_SIZE, MOST_UNITS};
+use crate::machine::{self, Machine, Memory, Screen, LINES, RECORDED_WRITES, SCRIPT_ITEMS};
+use crate::{plain, plain_line, plain_script, plain_tape};
 
 const DATA_WRITES: u32 = 1_000_000;
 
@@ -58,6 +58,13 @@ pub fn all() -> Vec<Work> {
             our_backs::<10_000>,
             plain_backs::<10_000>,
         ),
+        Work {
+            name: "script of data writes, plain asks GOOD",
+            units: SCRIPT_ITEMS,
+            make_ready: machine::script,
+            ours: our_script,
+            plain: plain_script,
+        },
     ]
 }
 
@@ -243,5 +250,32 @@ fn step_back_by(m: &mut Machine, k: usize, back: OnTape<usize>) -> Answer {
     Answer {
         number: DONE,
         result: (begun - m.count) as u32,
+    }
+}
+
+fn our_script(m: &mut Machine) -> Answer {
+    let (vram, ram, pixels) = (&mut m.vram[..], &m.ram[..], &mut m.screen.pixels[0]);
+    items(exports::run_script(
+        &mut m.state,
+        vram,
+        ram,
+        pixels,
+        &m.script,
+    ))
+}
+
+fn plain_script(m: &mut Machine) -> Answer {
+    items(plain_script::run(
+        &mut m.state,
+        &mut m.vram,
+        black_box(&m.script),
+    ))
+}
+
+// The items that were done.
+fn items(answer: ScriptAnswer) -> Answer {
+    Answer {
+        number: answer.number,
+        result: answer.place as u32,
     }
 }

@@ -1,16 +1,17 @@
 -- Whole scripts written and read:
 --     reads-back          reading what was written gives the items
 --     writes-back         writing the items of a well formed script gives its bytes
+--     written-in-turn     items written into a buffer one after the other leave their script there
 --     runs-as-written     a script that was written runs its items
 use Prim.Native.Nat.{ℕ, zero, suc, _+_, _*_, _/_, _%_, _<_, _≤_}
 use mathlib.Core.Path.{_≡_, refl, sym, ap, ap₂, _∙_}
-use mathlib.Core.Bool.{Bool, true, false, true≢false}
+use mathlib.Core.Bool.{Bool, true, false, cond, true≢false}
 use mathlib.Core.List.{List, [], _∷_, _++_}
 use native.Mathlib.Omega.{arith}
 use borrow.Author.Tests.{eqb-true, eqb-false}
 use lib.Dec.{eqb}
-use lib.ListN.{length, getD, take, drop, length-append, length-drop, take-append-drop}
-use lib.Seq.{drop-append-seam, getD-drop}
+use lib.ListN.{length, getD, take, drop, set, length-append, length-drop, take-append-drop}
+use lib.Seq.{drop-append-seam, getD-drop, sets, length-sets}
 use Rattle.vdp_state.specs.Cell.{wordAt}
 use Rattle.vdp_state.specs.Range.{AllBytes}
 use Rattle.vdp_state.proofs.Bools.{by-cases, by-cond}
@@ -19,11 +20,13 @@ use Rattle.vdp_script.specs.declared.item.Item.the-variants.{ControlWord
 use Rattle.vdp_script.specs.declared.item.Found.{Found}
 use Rattle.vdp_script.specs.declared.item.Found.the-variants.{Whole, Faulty}
 use Rattle.vdp_script.specs.Form.{Form, form, before, itemsFrom, version, formOf}
-use Rattle.vdp_script.specs.Item.{word, kindOf, contentOf, lengthOf, itemBytes, itemFrom, itemOf}
+use Rattle.vdp_script.specs.Item.{word, kindOf, contentOf, lengthOf, itemBytes, byteAfter, itemFrom, itemOf}
 use Rattle.vdp_script.specs.Run.{runForm}
-use Rattle.vdp_script.specs.Whole.{itemsWritten, scriptOf, ReadsBack, WritesBack, RunsAsWritten}
+use Rattle.vdp_script.specs.Whole.{itemsWritten, scriptOf, writeItems, WrittenInTurn, ReadsBack, WritesBack, RunsAsWritten}
+use Rattle.vdp_script.specs.Write.{WriteOutcome, writeOutcome, written, writeItem}
 use Rattle.vdp_script.proofs.Forms.{behind, at-whole, there, wrong-version, right-version}
 use Rattle.vdp_script.proofs.Items.{word-back, size, few, whole, whole-fits, Fits}
+use Rattle.vdp_script.proofs.Writes.{room}
 
 -- ---- what was written is read
 -- the kind and the content of an item are that item's
@@ -131,3 +134,26 @@ pub writes-back : WritesBack
 writes-back script all e =
     by-cases (eqb (getD script 0 0) version) (λ t. script-written script all (eqb-true (getD script 0 0) version t) e)
     (λ t. absurd (true≢false (sym (ap (λ (x : Form). x .faulty) (wrong-version script (eqb-false (getD script 0 0) version t))) ∙ e)))
+
+-- ---- items written into a buffer
+-- bytes stored behind others are both, stored one after the other
+sets-both : (l : List ℕ) (i : ℕ) (a b : List ℕ) → sets (sets l i a) (i + length a) b ≡ sets l i (a ++ b)
+sets-both l i [] b = ap (λ (n : ℕ). sets l n b) (let n : i + 0 ≡ i = omega arith in n)
+sets-both l i (x ∷ a) b = ap (λ (n : ℕ). sets (sets (set l i x) (suc i) a) n b) (let n : i + suc (length a) ≡ suc i + length a = omega arith in n) ∙ sets-both (set l i x) (suc i) a b
+
+in-turn : (items : List Item) (at : ℕ) (buffer : List ℕ) → at + length (itemsWritten items) ≤ length buffer
+    → writeItems items at buffer ≡ writeOutcome (written 0 (at + length (itemsWritten items))) (sets buffer at (itemsWritten items))
+in-turn [] at buffer h = ap (λ (n : ℕ). writeOutcome (written 0 n) buffer) (let n : at ≡ at + 0 = omega arith in n)
+in-turn (i ∷ items) at buffer h =
+    let both : length (itemBytes i ++ itemsWritten items) ≡ length (itemBytes i) + length (itemsWritten items) = length-append (itemBytes i) (itemsWritten items) in
+    let stored : List ℕ = sets buffer at (itemBytes i) in
+    let first : writeOutcome (written 0 (byteAfter at i)) stored ≡ writeItem buffer at i = room buffer at i (length (itemBytes i)) stored (omega (arith, both)) refl refl in
+    sym (ap (λ (o : WriteOutcome). cond (eqb (o .answer .number) 0) (writeItems items (o .answer .next) (o .script)) o) first)
+    ∙ in-turn items (byteAfter at i) stored (omega (arith, both, length-sets buffer at (itemBytes i)))
+    ∙ ap₂ (λ (n : ℕ) (l : List ℕ). writeOutcome (written 0 n) l) (omega (arith, both)) (sets-both buffer at (itemBytes i) (itemsWritten items))
+
+pub written-in-turn : WrittenInTurn
+written-in-turn items [] v h = absurd (let bad : ⊥ = omega arith in bad)
+written-in-turn items (b ∷ buffer) v h =
+    in-turn items 1 (b ∷ buffer) (omega arith)
+    ∙ ap₂ (λ (n x : ℕ). writeOutcome (written 0 n) (sets (x ∷ buffer) 1 (itemsWritten items))) (omega arith) v

@@ -1,14 +1,18 @@
 -- Whole scripts written and read: definition, Scripts, Writing.
-use Prim.Native.Nat.{ℕ}
+use Prim.Native.Nat.{ℕ, _≤_}
 use mathlib.Core.Path.{_≡_}
-use mathlib.Core.Bool.{false}
+use mathlib.Core.Bool.{false, cond}
 use mathlib.Core.List.{List, [], _∷_, _++_}
+use lib.Dec.{eqb}
+use lib.ListN.{length, getD}
+use lib.Seq.{sets}
 use Rattle.vdp_state.specs.Range.{AllBytes}
 use Rattle.vdp_state.specs.State.{Chip}
 use Rattle.vdp_script.specs.declared.item.Item.{Item}
 use Rattle.vdp_script.specs.Form.{form, formOf, version}
 use Rattle.vdp_script.specs.Item.{itemBytes}
 use Rattle.vdp_script.specs.Run.{runItems, runScript}
+use Rattle.vdp_script.specs.Write.{WriteOutcome, writeOutcome, written, writeItem}
 
 -- "the version and the items [..], written one after the other"
 abbrev pub itemsWritten : List Item → List ℕ
@@ -17,6 +21,20 @@ itemsWritten (i ∷ items) = itemBytes i ++ itemsWritten items
 
 abbrev pub scriptOf : List Item → List ℕ
 scriptOf items = version ∷ itemsWritten items
+
+-- items written one after the other, each at the byte after the one before, up to the first that has no room
+abbrev pub writeItems : List Item → ℕ → List ℕ → WriteOutcome
+writeItems [] at script = writeOutcome (written 0 at) script
+writeItems (i ∷ items) at script =
+    let o : WriteOutcome = writeItem script at i in
+    cond (eqb (o .answer .number) 0) (writeItems items (o .answer .next) (o .script)) o
+
+-- the claim: "items that are written one after the other, from byte 1 on, into a buffer that begins with the version
+-- and has room for all, leave the bytes of their script there"
+abbrev pub WrittenInTurn : Type 0
+WrittenInTurn =
+    (items : List Item) (buffer : List ℕ) → getD buffer 0 0 ≡ version → length (scriptOf items) ≤ length buffer
+    → writeItems items 1 buffer ≡ writeOutcome (written 0 (length (scriptOf items))) (sets buffer 0 (scriptOf items))
 
 -- the claim: "the bytes of a version and of items, whatever their words, are a well formed script, and its items are
 -- those"
