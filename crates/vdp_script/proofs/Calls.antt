@@ -1,5 +1,6 @@
 -- Laws of an item's call: from what a plain call leaves to what the item leaves, and from there to a script item.
 --     with-pixels, with-vram      a call that is lent VRAM and no pixels; a line, which leaves VRAM as it is
+--     at-byte                     what a script item leaves, by what begins at its byte
 --     done, stopped               a call that is done goes on behind its item, and one that is refused stays
 --     same-number, next-byte      what a script item answers, by its call
 --     goes-further                one that is done goes on further on
@@ -26,6 +27,10 @@ with-pixels a vram pixels o e = ap (λ (x : Outcome). itemOutcome (x .answer) (x
 
 pub with-vram : (a : Answer) (vram pixels : List ℕ) (o : LineOutcome) → lineOutcome a pixels ≡ o → itemOutcome a vram pixels ≡ itemOutcome (o .answer) vram (o .pixels)
 with-vram a vram pixels o e = ap (λ (x : LineOutcome). itemOutcome (x .answer) vram (x .pixels)) e
+
+pub at-byte : (script : List ℕ) (at : ℕ) (cartridge ram : List ℕ) (c : Chip) (pixels : List ℕ) {f : Found} → itemOf (drop at script) ≡ f
+    → callFound f at cartridge ram c pixels ≡ scriptItem script at cartridge ram c pixels
+at-byte script at cartridge ram c pixels e = sym (ap (λ (x : Found). callFound x at cartridge ram c pixels) e)
 
 module _ (a : Answer) (vram pixels : List ℕ) (o : ItemOutcome) (at after : ℕ) (e : itemOutcome a vram pixels ≡ o) where
   here : scriptItemOutcome (itemAnswer a (cond (eqb (a .number) 0) after at)) vram pixels ≡ called o at after

@@ -1,5 +1,5 @@
 -- The invariant: running the items from here on, from what the calls so far left, leads where running all of them leads.
-use Prim.Native.Nat.{_≤_, _-_}
+use Prim.Native.Nat.{_<_, _≤_, _-_}
 use borrow.Author.Needs.{needs}
 use native.Mathlib.Omega.{arith}
 use lib.ListN.{length}
@@ -21,41 +21,51 @@ abbrev μ-loop : tie.MeasureT-loop
 loop-holds : tie.Need-loop-holds Inv-loop μ-loop
 loop-holds c = (search needs, refl, refl, c .before .before .before .before .before .pre, refl)
 
+-- where a turn began, and what it was given
+abbrev turn : tie.After-script-item Inv-loop μ-loop → tie.In-loop Inv-loop μ-loop
+turn w = w .before .before .before
+
+abbrev begun : tie.In-loop Inv-loop μ-loop → tie.Start Inv-loop μ-loop
+begun p = p .before .before .before .before .before .before .before
+
 returns : tie.Need-returns Inv-loop μ-loop
 returns c =
     let w = c .before .before .before .before .before .before .before in
-    let p = w .before .before .before in
-    let l = p .before .loop in
-    let a = p .before .before .before .before .before .before .before .args in
-    sym (turn-refused (a .script .now) (a .cartridge .now) (a .ram .now) (l .place) (chip (l .state) (l .vram)) (l .pixels) (l .at) (w .script-item .result) _ _ (w .script-item .ensures) (p .loop-test .taken) (l .inv .3) (c .if1 .taken))
+    let l = turn w .before .loop in
+    let a = begun (turn w) .args in
+    sym (turn-refused (a .script .now) (a .cartridge .now) (a .ram .now) (l .place) (chip (l .state) (l .vram)) (l .pixels) (l .at) (w .script-item .result) _ _ (w .script-item .ensures) (turn w .loop-test .taken) (l .inv .3) (c .if1 .taken))
     ∙ l .inv .4
 
 add-place : tie.Need-add-place Inv-loop μ-loop
 add-place c =
-    let p = c .before .before .before .before .before .before .before .before .before .before in
-    omega (arith, p .before .loop .inv .0, p .loop-test .taken, p .before .before .before .before .before .before .before .good .1)
+    let p = turn (c .before .before .before .before .before .before .before) in
+    omega (arith, p .before .loop .inv .0, p .loop-test .taken, begun p .good .1)
+
+-- the next item begins further on, and the rest is well formed
+onward : (c : tie.Else1 Inv-loop μ-loop)
+    → let w = c .before .before .before .before .before .before .before in
+    let script = begun (turn w) .args .script .now in
+    let next = w .script-item .result .next in
+    (turn w .before .loop .at < next) × (next ≤ length script) × WellFormedAt script next
+onward c =
+    let w = c .before .before .before .before .before .before .before in
+    let l = turn w .before .loop in
+    let a = begun (turn w) .args in
+    turn-further (a .script .now) (a .cartridge .now) (a .ram .now) (l .place) (chip (l .state) (l .vram)) (l .pixels) (l .at) (w .script-item .result) _ _ (w .script-item .ensures) (turn w .loop-test .taken) (l .inv .3) (c .if1 .left)
 
 loop-less : tie.Need-loop-less Inv-loop μ-loop
-loop-less c =
-    let w = c .before .before .before .before .before .before .before in
-    let p = w .before .before .before in
-    let l = p .before .loop in
-    let a = p .before .before .before .before .before .before .before .args in
-    let f = turn-further (a .script .now) (a .cartridge .now) (a .ram .now) (l .place) (chip (l .state) (l .vram)) (l .pixels) (l .at) (w .script-item .result) _ _ (w .script-item .ensures) (p .loop-test .taken) (l .inv .3) (c .if1 .left) in
-    omega (arith, f .0, f .1)
+loop-less c = omega (arith, onward c .0, onward c .1)
 
 loop-again : tie.Need-loop-again Inv-loop μ-loop
 loop-again c =
     let w = c .before .before .before .before .before .before .before in
-    let p = w .before .before .before in
-    let l = p .before .loop in
-    let a = p .before .before .before .before .before .before .before .args in
-    let f = turn-further (a .script .now) (a .cartridge .now) (a .ram .now) (l .place) (chip (l .state) (l .vram)) (l .pixels) (l .at) (w .script-item .result) _ _ (w .script-item .ensures) (p .loop-test .taken) (l .inv .3) (c .if1 .left) in (
-      omega (arith, f .0, l .inv .0),
+    let l = turn w .before .loop in
+    let a = begun (turn w) .args in (
+      omega (arith, onward c .0, l .inv .0),
       search needs,
       search needs,
-      f .2,
-      sym (turn-done (a .script .now) (a .cartridge .now) (a .ram .now) (l .place) (chip (l .state) (l .vram)) (l .pixels) (l .at) (w .script-item .result) _ _ (w .script-item .ensures) (p .loop-test .taken) (l .inv .3) (c .if1 .left))
+      onward c .2,
+      sym (turn-done (a .script .now) (a .cartridge .now) (a .ram .now) (l .place) (chip (l .state) (l .vram)) (l .pixels) (l .at) (w .script-item .result) _ _ (w .script-item .ensures) (turn w .loop-test .taken) (l .inv .3) (c .if1 .left))
           ∙ l .inv .4,
     )
 
