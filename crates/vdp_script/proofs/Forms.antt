@@ -4,16 +4,18 @@
 --     there                        a form that is not faulty has a whole item where bytes are left
 --     some-left, none-left, inside, further    the same at a byte of a script
 --     judged-start, judged-at, judged-further  what is judged so far and what is left of it
---     wrong-version, right-version             the form of a whole script
+--     wrong-version, right-version, has-version    the form of a whole script, by its version
 use Prim.Native.Nat.{ℕ, zero, suc, _+_, _<_, _≤_}
-use mathlib.Core.Path.{_≡_, refl, sym, ap, ap₂, _∙_}
+use mathlib.Core.Path.{_≡_, refl, sym, ap, _∙_}
 use mathlib.Core.Bool.{Bool, true, false, true≢false}
 use mathlib.Core.List.{List, [], _∷_}
 use native.Mathlib.Omega.{arith}
-use borrow.Author.Tests.{eq-eqb, ne-eqb}
+use borrow.Author.Tests.{eq-eqb, ne-eqb, eqb-true, eqb-false}
+use lib.Dec.{eqb}
 use lib.ListN.{length, getD, drop, length-drop, drop-of-length-le}
 use lib.Seq.{drop-drop}
 use Rattle.vdp_state.specs.Answer.{first}
+use Rattle.vdp_state.proofs.Bools.{by-cases}
 use Rattle.vdp_script.specs.declared.item.Item.{Item}
 use Rattle.vdp_script.specs.declared.item.Found.{Found}
 use Rattle.vdp_script.specs.declared.item.Found.the-variants.{Whole, Faulty}
@@ -93,3 +95,9 @@ wrong-version script h = simp (ne-eqb (getD script 0 0) version h)
 pub right-version : (script : List ℕ) → getD script 0 0 ≡ version → formOf script ≡ itemsFrom 0 (drop 1 script)
 unfolding formOf
 right-version script h = simp (eq-eqb (getD script 0 0) version h)
+
+-- a script that is not faulty has its version
+pub has-version : (script : List ℕ) → formOf script .faulty ≡ false → getD script 0 0 ≡ version
+has-version script e =
+    by-cases (eqb (getD script 0 0) version) (eqb-true (getD script 0 0) version)
+    (λ t. absurd (true≢false (sym (ap (λ (f : Form). f .faulty) (wrong-version script (eqb-false (getD script 0 0) version t))) ∙ e)))

@@ -6,18 +6,18 @@
 --     none, other, cut, whole    what begins with the bytes, from the item of their kind and content
 --     whole-fits                 a whole item has all its bytes
 --     nothing-there, part        no item begins at the end of a script; the part of it from a byte on
-use Prim.Native.Nat.{ℕ, _+_, _-_, _/_, _%_, _<_, _≤_}
+use Prim.Native.Nat.{ℕ, _+_, _-_, _<_, _≤_}
 use mathlib.Core.Path.{_≡_, refl, sym, ap, _∙_}
 use mathlib.Core.Bool.{Bool, true, false, cond, _&&_}
 use mathlib.Core.List.{List, [], _∷_}
 use native.Mathlib.Omega.{arith}
 use native.Mathlib.Nat.{div-add-mod'}
-use borrow.Author.Tests.{eq-eqb, ne-eqb, le-leb, lt-leb, leb-true, leb-false, eqb-true}
+use borrow.Author.Tests.{eq-eqb, ne-eqb, le-leb, lt-leb, leb-true, eqb-true}
 use lib.Dec.{eqb, leb}
 use lib.ListN.{length, getD, take, drop, length-drop, drop-of-length-le}
 use lib.Seq.{take-all}
 use Rattle.vdp_state.specs.Cell.{wordAt}
-use Rattle.vdp_state.proofs.Bools.{by-cases, and-false, both, both-left, both-right}
+use Rattle.vdp_state.proofs.Bools.{by-cases, and-false, both-left, both-right}
 use Rattle.vdp_script.specs.declared.item.Item.{Item}
 use Rattle.vdp_script.specs.declared.item.Item.the-variants.{ControlWord, DataWord, DataRead, StatusRead, Run, Line, NewFrame}
 use Rattle.vdp_script.specs.declared.item.Found.{Found}

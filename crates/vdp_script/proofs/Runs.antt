@@ -1,31 +1,31 @@
--- Laws of a script that is run, at a byte where the next item begins:
---     ended             no item is left
---     turn-refused      the item's call is refused, and the run ends with it
---     turn-done         it is done, and the run goes on behind the item
---     sound, well-formed        a script that is judged with 0 has its version, and none of its items is faulty
+-- Laws of a script that is run:
+--     well-formed               a script that is judged with 0 has its version, and none of its items is faulty
 --     refused-form, run-form    a script that is judged with another number is not run, and one with 0 is
---     turn-further      then the next item begins further on, inside the script, and the rest is not faulty either
+-- and at a byte where the next item begins:
+--     ended                     no item is left
+--     turn-refused              the item's call is refused, and the run ends with it
+--     turn-done                 it is done, and the run goes on behind the item
+--     turn-further              then the next item begins further on, inside the script, and the rest is well formed
 use Prim.Native.Nat.{ℕ, _+_, _<_, _≤_}
 use mathlib.Core.Path.{_≡_, refl, sym, ap, _∙_}
-use mathlib.Core.Bool.{Bool, true, false, cond, true≢false}
-use mathlib.Core.List.{List, [], _∷_}
+use mathlib.Core.Bool.{Bool, true, false, cond}
+use mathlib.Core.List.{List}
 use native.Mathlib.Omega.{arith}
-use borrow.Author.Tests.{eq-eqb, ne-eqb, eqb-true, eqb-false}
+use borrow.Author.Tests.{eq-eqb, ne-eqb}
 use lib.Dec.{eqb}
-use lib.ListN.{length, getD, drop}
+use lib.ListN.{length, drop}
 use Rattle.vdp_state.specs.State.{Chip, chip}
-use Rattle.vdp_state.proofs.Bools.{by-cases}
 use Rattle.vdp_script.specs.declared.call.ItemAnswer.{ItemAnswer}
 use Rattle.vdp_script.specs.declared.form.Judged.{Judged}
 use Rattle.vdp_script.specs.declared.item.Item.{Item}
 use Rattle.vdp_script.specs.declared.item.Found.{Found}
 use Rattle.vdp_script.specs.declared.item.Found.the-variants.{Whole}
 use Rattle.vdp_script.specs.Call.{callItem, ScriptItemOutcome, scriptItemOutcome, called, callFound, scriptItem}
-use Rattle.vdp_script.specs.Form.{Form, form, before, itemsFrom, version, formOf, judgedAs, judged}
+use Rattle.vdp_script.specs.Form.{Form, form, before, itemsFrom, formOf, judgedAs, judged}
 use Rattle.vdp_script.specs.Item.{byteAfter, itemOf}
 use Rattle.vdp_script.specs.Run.{ScriptOutcome, endedAt, runItems, runScript}
 use Rattle.vdp_script.proofs.Calls.{next-byte, goes-further}
-use Rattle.vdp_script.proofs.Forms.{there, some-left, none-left, inside, further, wrong-version, right-version}
+use Rattle.vdp_script.proofs.Forms.{there, some-left, none-left, inside, further, right-version, has-version}
 
 -- the items of a script from a byte on
 abbrev pub itemsAt : List ℕ → ℕ → List Item
@@ -42,10 +42,8 @@ sound items false e = refl
 pub well-formed : (script : List ℕ) → judged script .number ≡ 0 → (formOf script ≡ itemsFrom 0 (drop 1 script)) × WellFormedAt script 1
 well-formed script e =
     let whole : formOf script .faulty ≡ false = sound (formOf script .items) (formOf script .faulty) e in
-    let version-right : formOf script ≡ itemsFrom 0 (drop 1 script) =
-    by-cases (eqb (getD script 0 0) version) (λ t. right-version script (eqb-true (getD script 0 0) version t))
-    (λ t. absurd (true≢false (sym (ap (λ (f : Form). f .faulty) (wrong-version script (eqb-false (getD script 0 0) version t))) ∙ whole))) in
-    (version-right, sym (ap (λ (f : Form). f .faulty) version-right) ∙ whole)
+    let items : formOf script ≡ itemsFrom 0 (drop 1 script) = right-version script (has-version script whole) in
+    (items, sym (ap (λ (f : Form). f .faulty) items) ∙ whole)
 
 module _ (script cartridge ram : List ℕ) (c : Chip) (pixels : List ℕ) (j : Judged) (e : j ≡ judged script) where
   abbrev runJudged : Judged → ScriptOutcome

@@ -3,28 +3,28 @@
 --     writes-back         writing the items of a well formed script gives its bytes
 --     written-in-turn     items written into a buffer one after the other leave their script there
 --     runs-as-written     a script that was written runs its items
-use Prim.Native.Nat.{ℕ, zero, suc, _+_, _*_, _/_, _%_, _<_, _≤_}
+use Prim.Native.Nat.{ℕ, zero, suc, _+_, _/_, _%_, _<_, _≤_}
 use mathlib.Core.Path.{_≡_, refl, sym, ap, ap₂, _∙_}
-use mathlib.Core.Bool.{Bool, true, false, cond, true≢false}
+use mathlib.Core.Bool.{false, cond}
 use mathlib.Core.List.{List, [], _∷_, _++_}
 use native.Mathlib.Omega.{arith}
-use borrow.Author.Tests.{eqb-true, eqb-false}
+use borrow.Author.Tests.{eqb-true}
 use lib.Dec.{eqb}
 use lib.ListN.{length, getD, take, drop, set, length-append, length-drop, take-append-drop}
 use lib.Seq.{drop-append-seam, getD-drop, sets, length-sets}
 use Rattle.vdp_state.specs.Cell.{wordAt}
 use Rattle.vdp_state.specs.Range.{AllBytes}
-use Rattle.vdp_state.proofs.Bools.{by-cases, by-cond}
+use Rattle.vdp_state.proofs.Bools.{by-cond}
 use Rattle.vdp_script.specs.declared.item.Item.{Item}
 use Rattle.vdp_script.specs.declared.item.Item.the-variants.{ControlWord, DataWord, DataRead, StatusRead, Run, Line, NewFrame}
 use Rattle.vdp_script.specs.declared.item.Found.{Found}
-use Rattle.vdp_script.specs.declared.item.Found.the-variants.{Whole, Faulty}
+use Rattle.vdp_script.specs.declared.item.Found.the-variants.{Whole}
 use Rattle.vdp_script.specs.Form.{Form, form, before, itemsFrom, version, formOf}
 use Rattle.vdp_script.specs.Item.{word, kindOf, contentOf, lengthOf, itemBytes, byteAfter, itemFrom, itemOf}
 use Rattle.vdp_script.specs.Run.{runForm}
 use Rattle.vdp_script.specs.Whole.{itemsWritten, scriptOf, writeItems, WrittenInTurn, ReadsBack, WritesBack, RunsAsWritten}
 use Rattle.vdp_script.specs.Write.{WriteOutcome, writeOutcome, written, writeItem}
-use Rattle.vdp_script.proofs.Forms.{behind, at-whole, there, wrong-version, right-version}
+use Rattle.vdp_script.proofs.Forms.{behind, at-whole, there, right-version, has-version}
 use Rattle.vdp_script.proofs.Items.{word-back, size, few, whole, whole-fits, Fits}
 use Rattle.vdp_script.proofs.Writes.{room}
 
@@ -131,9 +131,7 @@ script-written (b ∷ bytes) all v e =
     ∙ ap₂ (λ (x : ℕ) (l : List ℕ). x ∷ l) (sym v) (items-written (length bytes) bytes (omega arith) (λ j. all (suc j)) (sym (ap (λ (x : Form). x .faulty) f) ∙ e))
 
 pub writes-back : WritesBack
-writes-back script all e =
-    by-cases (eqb (getD script 0 0) version) (λ t. script-written script all (eqb-true (getD script 0 0) version t) e)
-    (λ t. absurd (true≢false (sym (ap (λ (x : Form). x .faulty) (wrong-version script (eqb-false (getD script 0 0) version t))) ∙ e)))
+writes-back script all e = script-written script all (has-version script e) e
 
 -- ---- items written into a buffer
 -- bytes stored behind others are both, stored one after the other

@@ -5,12 +5,12 @@ use mathlib.Core.List.{List, [], _∷_, _++_}
 use lib.ListN.{getD, replicate, take}
 use Rattle.vdp_state.specs.declared.state.State.{State}
 use Rattle.vdp_state.specs.Fresh.{fresh}
-use Rattle.vdp_state.specs.State.{Chip, chip, withControl, withPort}
+use Rattle.vdp_state.specs.State.{chip, withControl, withPort}
 use Rattle.vdp_state.specs.Worked.{Case, gives}
 use Rattle.vdp_script.specs.declared.form.Judged.{Judged}
 use Rattle.vdp_script.specs.declared.item.Item.the-variants.{ControlWord, DataWord, DataRead, StatusRead, Run, Line, NewFrame}
 use Rattle.vdp_script.specs.Admitted.{admitted}
-use Rattle.vdp_script.specs.Call.{ScriptItemOutcome, scriptItem}
+use Rattle.vdp_script.specs.Call.{scriptItem}
 use Rattle.vdp_script.specs.Form.{judged}
 use Rattle.vdp_script.specs.Run.{ScriptOutcome, runScript}
 use Rattle.vdp_script.specs.Whole.{scriptOf}

@@ -5,8 +5,6 @@ use mathlib.Core.List.{List}
 use lib.Dec.{eqb}
 use lib.ListN.{drop}
 use Rattle.vdp_state.specs.declared.answer.Answer.{Answer}
-use Rattle.vdp_state.specs.declared.state.State.{State}
-use Rattle.vdp_state.specs.Answer.{Outcome}
 use Rattle.vdp_state.specs.State.{Chip}
 use Rattle.vdp_ports.specs.Control.{controlWrite}
 use Rattle.vdp_ports.specs.Data.{dataWrite, dataRead}

@@ -3,7 +3,6 @@ use Prim.Native.Nat.{ℕ, _+_}
 use mathlib.Core.Bool.{cond}
 use mathlib.Core.List.{List, [], _∷_}
 use lib.Dec.{eqb}
-use lib.ListN.{length}
 use Rattle.vdp_state.specs.declared.state.State.{State}
 use Rattle.vdp_state.specs.State.{Chip, chip}
 use Rattle.vdp_script.specs.declared.item.Item.{Item}

@@ -4,7 +4,7 @@ use borrow.Author.Needs.{needs}
 use native.Mathlib.Omega.{arith}
 use lib.ListN.{length, drop}
 use mathlib.Core.Bool.{true, false}
-use mathlib.Core.Path.{_≡_, refl, sym, ap, _∙_}
+use mathlib.Core.Path.{_≡_, sym, ap, _∙_}
 use Rattle.vdp_script.specs.Form.{itemsFrom, judgedAs}
 use Rattle.vdp_script.proofs.Forms.{judgedAfter, judged-start, judged-at, judged-further, at-faulty, some-left, none-left}
 use Rattle.vdp_script.proofs.form.judge_items.Statement.{statement}

@@ -1,6 +1,5 @@
 -- By what the kind and the content are, and then by the length and by the bytes that there are.
 use borrow.Author.Needs.{needs}
-use mathlib.Core.Path.{sym, _∙_}
 use Rattle.vdp_script.proofs.Items.{none, other, cut, whole}
 use Rattle.vdp_script.proofs.item.item_of.Statement.{statement}
 use Rattle.vdp_script.proofs.item.item_of.Tie as tie
