@@ -24,7 +24,7 @@ _Static_assert(offsetof(kuthbareen_item_answer, next) == 8, "next");
 _Static_assert(sizeof(kuthbareen_item_written) == 16, "item written");
 _Static_assert(offsetof(kuthbareen_item_written, next) == 8, "next");
 
-static board ours, theirs;
+static board ours, theirs, spare;
 static item list[ITEMS];
 static uint8_t script[SCRIPT_SIZE], ram[KUTHBAREEN_RAM_SIZE], cartridge[4096];
 
@@ -59,12 +59,13 @@ static uint16_t control_word(void)
     return words[below(sizeof words / sizeof words[0])];
 }
 
+/* One control word in thirty has the bits of a write to one of registers 24 to 31. */
 static item some_item(void)
 {
     item i = {(uint8_t)(1 + below(KINDS)), 0};
     if (i.kind == KUTHBAREEN_ITEM_CONTROL_WORD || below(3) == 0) {
         i.kind = KUTHBAREEN_ITEM_CONTROL_WORD;
-        i.content = control_word();
+        i.content = below(30) == 0 ? (uint16_t)(0x9800 | below(0x4000)) : control_word();
     } else if (i.kind == KUTHBAREEN_ITEM_LINE) {
         i.content = (uint16_t)below(230);
     } else {
@@ -73,11 +74,12 @@ static item some_item(void)
     return i;
 }
 
-static void begin(board *b)
+static void begin(board *b, bool pending)
 {
     unsigned i;
     b->chip = kuthbareen_fresh(false);
     b->chip.registers[1] = 0x14;
+    b->chip.control.port.pending = pending;
     for (i = 0; i < sizeof b->vram; i++)
         b->vram[i] = (uint8_t)(i * 7);
     memset(b->pixels, 0xEE, sizeof b->pixels);
@@ -135,14 +137,61 @@ static size_t written(unsigned items)
     return at;
 }
 
+/* The place of the first item that writes a missing register, or how many items there are. It is told by plain calls on
+ * a spare board of which only the pending flag is kept, so that no call is busy: a register write to another register
+ * clears the code there, and the half of a command moves pending. */
+static unsigned first_missing(bool pending, unsigned items)
+{
+    unsigned place;
+    for (place = 0; place < items; place++) {
+        kuthbareen_state before = kuthbareen_fresh(false);
+        before.control.port.code = 1;
+        before.control.port.pending = pending;
+        spare.chip = before;
+        plain(&spare, list[place]);
+        if (list[place].kind == KUTHBAREEN_ITEM_CONTROL_WORD && same_state(&spare.chip, &before))
+            return place;
+        pending = spare.chip.control.port.pending;
+    }
+    return items;
+}
+
+/* What a well formed script of the list answers when it is judged. */
+static void judged(const char *what, bool pending, size_t size, unsigned items)
+{
+    unsigned place = first_missing(pending, items);
+    kuthbareen_script_answer answer = kuthbareen_judge_script(pending, script, size);
+    expect(what, answer.number, place < items ? KUTHBAREEN_MISSING_REGISTER : KUTHBAREEN_DONE);
+    expect(what, answer.place, place);
+}
+
+/* What a script that is refused before its first call answers and leaves. */
+static void refused(const char *what, bool pending, size_t size, unsigned number, unsigned place)
+{
+    kuthbareen_script_answer answer = kuthbareen_judge_script(pending, script, size);
+    expect(what, answer.number, number);
+    expect(what, answer.place, place);
+    begin(&ours, pending);
+    begin(&theirs, pending);
+    answer = run(&ours, size);
+    expect(what, answer.number, number);
+    expect(what, answer.place, place);
+    same_boards(what);
+}
+
 /* A script is its plain calls, as a whole and item by item, up to the first that is refused. */
-static unsigned as_plain_calls(unsigned items)
+static unsigned as_plain_calls(bool pending, unsigned items)
 {
     size_t size = written(items), at = KUTHBAREEN_FIRST_ITEM;
-    unsigned place;
+    unsigned place = first_missing(pending, items);
     uint8_t number = KUTHBAREEN_DONE;
-    begin(&ours);
-    begin(&theirs);
+    judged("judged", pending, size, items);
+    if (place < items) {
+        refused("missing register", pending, size, KUTHBAREEN_MISSING_REGISTER, place);
+        return KUTHBAREEN_MISSING_REGISTER;
+    }
+    begin(&ours, pending);
+    begin(&theirs, pending);
     for (place = 0; place < items && number == KUTHBAREEN_DONE; place++) {
         kuthbareen_answer a = plain(&theirs, list[place]);
         kuthbareen_item_answer b = step(&ours, size, at);
@@ -153,7 +202,7 @@ static unsigned as_plain_calls(unsigned items)
         expect("next byte", b.next, at);
     }
     same_boards("item by item");
-    begin(&ours);
+    begin(&ours, pending);
     kuthbareen_script_answer whole = run(&ours, size);
     expect("number of a script", whole.number, number);
     expect("place", whole.place, number == KUTHBAREEN_DONE ? items : place - 1);
@@ -161,36 +210,20 @@ static unsigned as_plain_calls(unsigned items)
     return number;
 }
 
-/* What a script that can't be run answers and leaves. */
-static void refused(const char *what, size_t size, unsigned place)
-{
-    kuthbareen_script_answer judged = kuthbareen_judge_script(script, size);
-    expect(what, judged.number, KUTHBAREEN_BAD_SCRIPT);
-    expect(what, judged.place, place);
-    begin(&ours);
-    begin(&theirs);
-    kuthbareen_script_answer answer = run(&ours, size);
-    expect(what, answer.number, KUTHBAREEN_BAD_SCRIPT);
-    expect(what, answer.place, place);
-    same_boards(what);
-}
-
 /* Cut at every byte: well formed exactly where an item ends. */
 static void cut(unsigned items)
 {
     size_t size = written(items), at;
     unsigned place = 0;
-    refused("nothing at all", 0, 0);
+    refused("nothing at all", false, 0, KUTHBAREEN_BAD_SCRIPT, 0);
     for (at = KUTHBAREEN_FIRST_ITEM; at <= size; at++) {
-        kuthbareen_script_answer judged = kuthbareen_judge_script(script, at);
         if (at == byte_of(place + 1) && place < items)
             place++;
         if (at == byte_of(place)) {
-            expect("whole items", judged.number, KUTHBAREEN_DONE);
-            expect("how many", judged.place, place);
+            judged("whole items", at % 2, at, place);
             expect("no item at the end", step(&ours, at, at).number, KUTHBAREEN_BAD_SCRIPT);
         } else {
-            refused("cut", at, place);
+            refused("cut", at % 2, at, KUTHBAREEN_BAD_SCRIPT, place);
         }
     }
 }
@@ -204,18 +237,23 @@ static void changed(unsigned items)
         for (at = byte_of(place); at < byte_of(place + 1); at++)
             for (bit = 0; bit < 8; bit++) {
                 size_t offset = at - byte_of(place);
+                item kept = list[place], other = kept;
                 script[at] ^= (uint8_t)(1 << bit);
-                item other = {script[at], 0};
-                bool same = offset > 2 || (offset == 2 && other.kind >= 1 && other.kind <= KINDS &&
-                                           size_of(other) == size_of(list[place]));
-                if (same)
-                    expect("well formed", kuthbareen_judge_script(script, size).number, KUTHBAREEN_DONE);
-                else
-                    refused("changed", size, place);
+                if (offset == 2)
+                    other.kind = script[at];
+                if (offset > 2)
+                    other.content ^= (uint16_t)(1 << (offset == 3 ? bit + 8 : bit));
+                if (offset >= 2 && other.kind >= 1 && other.kind <= KINDS && size_of(other) == size_of(kept)) {
+                    list[place] = other;
+                    judged("well formed", bit % 2, size, items);
+                    list[place] = kept;
+                } else {
+                    refused("changed", bit % 2, size, KUTHBAREEN_BAD_SCRIPT, place);
+                }
                 script[at] ^= (uint8_t)(1 << bit);
             }
     script[0] = 2;
-    refused("version 2", size, 0);
+    refused("version 2", false, size, KUTHBAREEN_BAD_SCRIPT, 0);
 }
 
 /* Items at every byte of a short buffer and behind it, and kinds that there are not. */
@@ -248,16 +286,35 @@ static void rooms(void)
             }
 }
 
+/* Every control word, with pending clear and set, alone and behind a first half. */
+static void words(void)
+{
+    unsigned word, behind;
+    for (word = 0; word < 65536; word++)
+        for (behind = 0; behind < 2; behind++) {
+            size_t size = KUTHBAREEN_FIRST_ITEM;
+            list[0] = (item){KUTHBAREEN_ITEM_CONTROL_WORD, 0x4000};
+            list[behind] = (item){KUTHBAREEN_ITEM_CONTROL_WORD, (uint16_t)word};
+            if (behind == 1)
+                size = kuthbareen_write_item(script, sizeof script, size, list[0].kind, list[0].content).next;
+            size = kuthbareen_write_item(script, sizeof script, size, list[behind].kind, list[behind].content).next;
+            judged("a word, pending clear", false, size, behind + 1);
+            judged("a word, pending set", true, size, behind + 1);
+        }
+}
+
 /* A state and buffers that are wrong are refused by the calls, and only by those that ask. */
 static void bad_boards(void)
 {
     size_t size = written(0);
-    begin(&ours);
+    begin(&ours, false);
     ours.chip.control.port.code = 64;
     expect("no items, bad state", run(&ours, size).number, KUTHBAREEN_DONE);
     size = kuthbareen_write_item(script, sizeof script, size, KUTHBAREEN_ITEM_STATUS_READ, 0).next;
     expect("bad state", run(&ours, size).number, KUTHBAREEN_BAD_STATE);
-    begin(&ours);
+    size_t more = kuthbareen_write_item(script, sizeof script, size, KUTHBAREEN_ITEM_CONTROL_WORD, 0x9800).next;
+    expect("bad state, missing register", run(&ours, more).number, KUTHBAREEN_MISSING_REGISTER);
+    begin(&ours, false);
     size = kuthbareen_write_item(script, sizeof script, size, KUTHBAREEN_ITEM_LINE, 0).next;
     kuthbareen_script_answer a = kuthbareen_run_script(&ours.chip, ours.vram, sizeof ours.vram, cartridge, 0, ram, 0,
                                                        ours.pixels, sizeof ours.pixels - 1, script, size);
@@ -267,18 +324,21 @@ static void bad_boards(void)
 
 int main(void)
 {
-    unsigned i, ended[12] = {0};
+    unsigned i, ended[13] = {0};
     for (i = 0; i < sizeof cartridge; i++)
         cartridge[i] = (uint8_t)(i * 11 + 3);
     for (i = 0; i < 3000; i++)
-        ended[as_plain_calls(below(ITEMS + 1))]++;
+        ended[as_plain_calls(below(2), below(ITEMS + 1))]++;
     expect("scripts that are done come up", ended[KUTHBAREEN_DONE] > 100, 1);
+    expect("missing registers do", ended[KUTHBAREEN_MISSING_REGISTER] > 100, 1);
     expect("busy ones do", ended[KUTHBAREEN_BUSY] > 100, 1);
     expect("lines that are not there do", ended[KUTHBAREEN_NO_SUCH_PLACE] > 10, 1);
     for (i = 0; i < 10; i++) {
         cut(1 + below(8));
         changed(1 + below(5));
     }
+    script[0] = KUTHBAREEN_SCRIPT_VERSION;
+    words();
     rooms();
     bad_boards();
     return tested();

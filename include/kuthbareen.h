@@ -23,20 +23,21 @@
 extern "C" {
 #endif
 
-/* The numbers a call may answer; 9 is never given. Where several would do, a call answers the first of 1, 2, 11, 3, 10,
- * 8, 5, 4, 7, 6. */
+/* The numbers a call may answer; 9 is never given. Where several would do, a call answers the first of 1, 2, 11, 12, 3,
+ * 10, 8, 5, 4, 7, 6. */
 enum {
-    KUTHBAREEN_DONE = 0,            /* the call was made */
-    KUTHBAREEN_BAD_STATE = 1,       /* the state is not GOOD */
-    KUTHBAREEN_BAD_BUFFER = 2,      /* a buffer has a wrong size */
-    KUTHBAREEN_BUSY = 3,            /* DMA is at work */
-    KUTHBAREEN_NOT_MODELLED = 4,    /* the registers ask for what is not modelled, or a line begins with PAL set */
-    KUTHBAREEN_NO_SUCH_PLACE = 5,   /* no such line, pattern or row */
-    KUTHBAREEN_TAPE_FULL = 6,       /* fewer free records than steps to be made */
-    KUTHBAREEN_SOURCE_NOT_LENT = 7, /* a word to be moved lies in no lent memory */
-    KUTHBAREEN_BAD_RECORD = 8,      /* a record of the tape breaks the layout */
-    KUTHBAREEN_NOTHING_THERE = 10,  /* a step back of more than the count, or a level that is not offered */
-    KUTHBAREEN_BAD_SCRIPT = 11      /* a script is not well formed, or no whole item begins at the byte */
+    KUTHBAREEN_DONE = 0,             /* the call was made */
+    KUTHBAREEN_BAD_STATE = 1,        /* the state is not GOOD */
+    KUTHBAREEN_BAD_BUFFER = 2,       /* a buffer has a wrong size */
+    KUTHBAREEN_BUSY = 3,             /* DMA is at work */
+    KUTHBAREEN_NOT_MODELLED = 4,     /* the registers ask for what is not modelled, or a line begins with PAL set */
+    KUTHBAREEN_NO_SUCH_PLACE = 5,    /* no such line, pattern or row */
+    KUTHBAREEN_TAPE_FULL = 6,        /* fewer free records than steps to be made */
+    KUTHBAREEN_SOURCE_NOT_LENT = 7,  /* a word to be moved lies in no lent memory */
+    KUTHBAREEN_BAD_RECORD = 8,       /* a record of the tape breaks the layout */
+    KUTHBAREEN_NOTHING_THERE = 10,   /* a step back of more than the count, or a level that is not offered */
+    KUTHBAREEN_BAD_SCRIPT = 11,      /* a script is not well formed, or no whole item begins at the byte */
+    KUTHBAREEN_MISSING_REGISTER = 12 /* a script writes a register that there is not, 24 to 31 */
 };
 
 /* The sizes that calls ask for, in bytes. */
@@ -143,7 +144,7 @@ typedef struct {
 /* What a script that is run or judged gives back. */
 typedef struct {
     uint8_t number; /* one of the numbers above */
-    size_t place;   /* of the item that was refused or is faulty, from 0; with KUTHBAREEN_DONE how many items there are */
+    size_t place;   /* of the item that is refused, from 0; with KUTHBAREEN_DONE how many items there are */
 } kuthbareen_script_answer;
 
 /* What one item of a script gives back. */
@@ -251,24 +252,25 @@ kuthbareen_recorded kuthbareen_recorded_line(kuthbareen_state *state, const uint
 kuthbareen_recorded kuthbareen_step_back(kuthbareen_state *state, uint8_t *vram, size_t vram_size, const uint8_t *tape,
                                          size_t tape_size, size_t count, size_t k);
 
-/* Runs a script. It is judged as a whole first, and one that is not well formed makes no call. Then its plain calls are
- * made in their order. The first that is refused ends it, and those before it stand: here a number other than
- * KUTHBAREEN_DONE does not say that all is as it came. */
+/* Runs a script. It is judged as a whole first, with the state's pending flag, and one that is refused there makes no
+ * call. Then its plain calls are made in their order. The first that is refused ends it, and those before it stand:
+ * here a number other than KUTHBAREEN_DONE does not say that all is as it came. */
 kuthbareen_script_answer kuthbareen_run_script(kuthbareen_state *state, uint8_t *vram, size_t vram_size,
                                                const uint8_t *cartridge, size_t cartridge_size, const uint8_t *ram,
                                                size_t ram_size, uint8_t *pixels, size_t pixels_size,
                                                const uint8_t *script, size_t script_size);
 
-/* Makes the call of the item that begins at byte at of a script; what stands before it is not looked at. With
- * kuthbareen_judge_script first and then from KUTHBAREEN_FIRST_ITEM on to the end, this runs a script and has each
- * call's answer. */
+/* Makes the call of the item that begins at byte at of a script; what stands before it is not looked at, and a write to
+ * a missing register is made as the control port does it. With kuthbareen_judge_script first and then from
+ * KUTHBAREEN_FIRST_ITEM on to the end, this runs a script and has each call's answer. */
 kuthbareen_item_answer kuthbareen_script_item(kuthbareen_state *state, uint8_t *vram, size_t vram_size,
                                               const uint8_t *cartridge, size_t cartridge_size, const uint8_t *ram,
                                               size_t ram_size, uint8_t *pixels, size_t pixels_size,
                                               const uint8_t *script, size_t script_size, size_t at);
 
-/* Whether a script is well formed, and where it is not. */
-kuthbareen_script_answer kuthbareen_judge_script(const uint8_t *script, size_t script_size);
+/* Judges a script that is to be run from a state with this pending flag (its control.port.pending): whether it is well
+ * formed, whether it writes a missing register, and where. */
+kuthbareen_script_answer kuthbareen_judge_script(bool pending, const uint8_t *script, size_t script_size);
 
 /* Writes the item of a kind with this content at byte at of a script, over what stands there; kinds without a content
  * do not look at it. The version is the caller's to write, at byte 0. */

@@ -89,6 +89,7 @@ pub const SOURCE_NOT_LENT: u8 = 7;
 pub const BAD_RECORD: u8 = 8;
 pub const NOTHING_THERE: u8 = 10;
 pub const BAD_SCRIPT: u8 = 11;
+pub const MISSING_REGISTER: u8 = 12;
 
 pub const LINE_SIZE: usize = 320;
 pub const RECORD_SIZE: usize = 32;

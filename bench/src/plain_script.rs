@@ -1,6 +1,6 @@
 // A script as a plain Rust program would run it, by the rules of docs/DEFINITION.md (Scripts): judged as a whole, and
 // then data write by data write. It knows the lengths of all kinds, and makes no other calls.
-use crate::exports::{ScriptAnswer, State, BAD_SCRIPT, DONE};
+use crate::exports::{ScriptAnswer, State, BAD_SCRIPT, DONE, MISSING_REGISTER};
 use crate::machine::Memory;
 use crate::plain::data_write_asking_good;
 
@@ -23,30 +23,45 @@ fn item(bytes: &[u8]) -> Option<(u8, &[u8], &[u8])> {
     right.then_some((*kind, content, behind))
 }
 
-fn judge(script: &[u8]) -> ScriptAnswer {
-    let faulty = |place| ScriptAnswer {
-        number: BAD_SCRIPT,
-        place,
-    };
+// Whether an item names a missing register, with this pending flag, and the flag that it leaves.
+fn names_missing(pending: bool, kind: u8, content: &[u8]) -> (bool, bool) {
+    match (kind, content) {
+        (1, &[high, _]) => {
+            let register = !pending && high >> 6 == 0b10;
+            (register && high % 32 > 23, !pending && !register)
+        }
+        (2..=4, _) => (false, false),
+        _ => (false, pending),
+    }
+}
+
+// In one walk over the items: the first that names a missing register is kept until the form is known.
+fn judge(mut pending: bool, script: &[u8]) -> ScriptAnswer {
+    let answer = |number, place| ScriptAnswer { number, place };
     let Some((&VERSION, mut bytes)) = script.split_first() else {
-        return faulty(0);
+        return answer(BAD_SCRIPT, 0);
     };
     let mut place = 0;
+    let mut missing = None;
     while !bytes.is_empty() {
-        let Some((_, _, behind)) = item(bytes) else {
-            return faulty(place);
+        let Some((kind, content, behind)) = item(bytes) else {
+            return answer(BAD_SCRIPT, place);
         };
-        (bytes, place) = (behind, place + 1);
+        let (names, left) = names_missing(pending, kind, content);
+        if names {
+            missing.get_or_insert(place);
+        }
+        (bytes, place, pending) = (behind, place + 1, left);
     }
-    ScriptAnswer {
-        number: DONE,
-        place,
+    match missing {
+        Some(first) => answer(MISSING_REGISTER, first),
+        None => answer(DONE, place),
     }
 }
 
 #[inline(never)]
 pub fn run(state: &mut State, vram: &mut Memory, script: &[u8]) -> ScriptAnswer {
-    let judged = judge(script);
+    let judged = judge(state.control.port.pending, script);
     if judged.number != DONE {
         return judged;
     }

@@ -13,6 +13,7 @@ pub const SOURCE_NOT_LENT: Answer = 7;
 pub const BAD_RECORD: Answer = 8;
 pub const NOTHING_THERE: Answer = 10;
 pub const BAD_SCRIPT: Answer = 11;
+pub const MISSING_REGISTER: Answer = 12;
 
 /// An accepted call gives its result, a refused one its number.
 pub type Reply = Result<u32, Answer>;

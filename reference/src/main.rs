@@ -30,6 +30,8 @@ mod intensities;
 mod longest;
 #[cfg(test)]
 mod masking;
+#[cfg(test)]
+mod missing;
 mod pattern;
 mod planes;
 mod ports;

@@ -10,26 +10,53 @@ pub fn doubled(byte: u8) -> u16 {
     257 * u16::from(byte)
 }
 
-/// Control write: a second half if one is awaited, else a register write or a first half.
-pub fn control_write(state: &mut State, word: u16) {
-    if state.pending {
-        second_half(state, word);
-    } else if word >> 14 == 0b10 {
-        register_write(state, word);
-    } else {
-        first_half(state, word);
+/// What the control port takes a word for.
+#[derive(Clone, Copy, Debug, PartialEq, Eq)]
+pub enum Taken {
+    /// A write to the register of this number.
+    RegisterWrite(usize),
+    /// A write to one of registers 24 to 31, which do not exist.
+    MissingRegister,
+    FirstHalf,
+    SecondHalf,
+}
+
+impl Taken {
+    /// A second half if one is awaited, else a register write or a first half. Bit 13 of a register
+    /// write is ignored.
+    pub fn of(word: u16, pending: bool) -> Taken {
+        let number = usize::from(word / 256 % 32);
+        match word >> 14 {
+            _ if pending => Taken::SecondHalf,
+            0b10 if number < REGISTERS => Taken::RegisterWrite(number),
+            0b10 => Taken::MissingRegister,
+            _ => Taken::FirstHalf,
+        }
+    }
+
+    /// Is a second half awaited after it?
+    pub fn leaves_pending(self) -> bool {
+        self == Taken::FirstHalf
     }
 }
 
-/// Registers 24 to 31 do not exist; a write to them changes nothing at all.
-fn register_write(state: &mut State, word: u16) {
-    let [upper, value] = word.to_be_bytes();
-    let number = usize::from(upper % 32);
-    if number < REGISTERS {
-        state.registers[number] = value;
-        state.code = 0;
-        drop_waiting_fill(state);
+/// Control write; one to a register that does not exist changes nothing at all.
+pub fn control_write(state: &mut State, word: u16) {
+    let taken = Taken::of(word, state.pending);
+    match taken {
+        Taken::RegisterWrite(number) => register_write(state, number, word),
+        Taken::MissingRegister => (),
+        Taken::FirstHalf => first_half(state, word),
+        Taken::SecondHalf => second_half(state, word),
     }
+    state.pending = taken.leaves_pending();
+}
+
+fn register_write(state: &mut State, number: usize, word: u16) {
+    let [_, value] = word.to_be_bytes();
+    state.registers[number] = value;
+    state.code = 0;
+    drop_waiting_fill(state);
 }
 
 /// The upper bits of code and address stay until the second half.
@@ -37,7 +64,6 @@ fn first_half(state: &mut State, word: u16) {
     let [upper, _] = word.to_be_bytes();
     state.code = (state.code & 0x3C) | (upper >> 6);
     state.address = (state.address & 0xC000) | (word & 0x3FFF);
-    state.pending = true;
     drop_waiting_fill(state);
 }
 
@@ -45,7 +71,6 @@ fn second_half(state: &mut State, word: u16) {
     let [_, lower] = word.to_be_bytes();
     state.code = (state.code & 0x03) | ((lower >> 4) << 2);
     state.address = (state.address & 0x3FFF) | ((word & 3) << 14);
-    state.pending = false;
     dma::start_if_asked(state);
 }
 

@@ -4,7 +4,7 @@ use crate::answer::{numbers, Reply};
 use crate::calls;
 use crate::dma::Memories;
 use crate::ports::doubled;
-use crate::script::form::Report;
+use crate::script::judge::Report;
 use crate::script::run::{self, Lent};
 use crate::script::{self, Item};
 use crate::state::{State, COLOURS, REGISTERS, SCROLLS};

@@ -4,9 +4,10 @@
 use crate::answer::{numbers, DONE};
 use crate::bench::{command, script_length as length, RUN_SCRIPT as RUN};
 use crate::check::Checker;
+use crate::missing::first_ignored;
 use crate::replay::{Command, Machine, SCRIPT};
-use crate::script::form::{self, Report};
-use crate::script::{run, Item};
+use crate::script::judge::{judged, Report};
+use crate::script::{form, run, Item};
 use crate::streams::{stream, Kind, Maker, CODE};
 
 const VERSION_1: Command = Command { op: 34, a: 1, b: SCRIPT, c: 0 };
@@ -54,6 +55,23 @@ fn an_item_of_no_kind_does_nothing() {
         assert!(lines(&mut machine, &commands).is_empty());
         assert_eq!(machine.script.bytes, [0xAA; 16_388]);
     }
+}
+
+/// Only a script that is run is turned down.
+#[test]
+fn an_item_for_a_missing_register_is_written() {
+    let mut machine = Machine::new();
+    let written = [VERSION_1, length(9), command(18, 4, 0, 1), command(18, 1, 0x9800, 4)];
+    assert_eq!(lines(&mut machine, &written), ["18 0 4 0", "18 0 9 0"]);
+    let pending = |set| command(32, 5, 0, set);
+    assert_eq!(lines(&mut machine, &[RUN, pending(1), RUN]), ["17 12 1 0", "17 12 1 0"]);
+    assert!(machine.state.pending);
+    let first = [command(18, 1, 0x9800, 1), length(6)];
+    assert_eq!(lines(&mut machine, &first), ["18 0 6 0"]);
+    assert_eq!(
+        lines(&mut machine, &[RUN, RUN, pending(1), RUN]),
+        ["17 0 1 0", "17 12 0 0", "17 0 1 0"]
+    );
 }
 
 /// Byte 16,390 is byte 2, lengths go up to 16,388, and there is no buffer 7.
@@ -127,13 +145,17 @@ fn plain(item: Item) -> Command {
     }
 }
 
-/// The script's plain calls by ops 1 to 9, up to a refused one.
+/// The script's plain calls by ops 1 to 9, up to a refused one, if the port would ignore none of
+/// them.
 fn by_plain_ops(machine: &mut Machine) -> Report {
     machine.recorded = false;
     let items = match form::items(machine.script.lent()) {
         Ok(items) => items,
         Err(place) => return (11, place),
     };
+    if let Some(place) = first_ignored(&items, machine.state.pending) {
+        return (12, place as u32);
+    }
     for (place, item) in (0..).zip(&items) {
         let (number, _) = numbers(machine.call(&plain(*item)));
         if number != DONE {
@@ -143,10 +165,10 @@ fn by_plain_ops(machine: &mut Machine) -> Report {
     (DONE, items.len() as u32)
 }
 
-/// The script's items one by one, from byte 1 on to its end, if it is well formed.
+/// The script's items one by one, from byte 1 on to its end, if it is judged with 0.
 fn by_items(machine: &mut Machine) -> Report {
     let (mut lent, script) = machine.lent();
-    let (number, place) = form::judged(script);
+    let (number, place) = judged(script, lent.state.pending);
     if number != DONE {
         return (number, place);
     }
@@ -163,10 +185,10 @@ fn by_items(machine: &mut Machine) -> Report {
     (DONE, place)
 }
 
-/// In streams by chance, scripts that are done, refused at later places and faulty.
+/// In streams by chance, scripts that are done, refused at later places, faulty and turned down.
 #[test]
 fn a_script_is_its_plain_calls() {
-    let (mut done, mut later, mut faulty) = (0, 0, 0);
+    let (mut done, mut later, mut faulty, mut missing) = (0, 0, 0, 0);
     for seed in 50..58 {
         let mut machine = Machine::new();
         for command in stream(seed, Kind::Script, 600) {
@@ -184,11 +206,13 @@ fn a_script_is_its_plain_calls() {
             }
             assert!(before.tape.bytes == machine.tape.bytes && before.count == machine.count);
             done += u32::from(report.0 == DONE);
-            later += u32::from(report.0 != 11 && report.0 != DONE && report.1 > 0);
+            later += u32::from((1..11).contains(&report.0) && report.1 > 0);
             faulty += u32::from(report.0 == 11);
+            missing += u32::from(report.0 == 12);
         }
     }
-    assert!(done > 50 && later > 20 && faulty > 50, "{done}, {later} and {faulty}");
+    let counts = [done, later, faulty, missing];
+    assert!(counts.iter().zip([50, 20, 50, 30]).all(|(count, few)| *count > few), "{counts:?}");
 }
 
 /// How many of the commands were held against a book; none may differ from it.
@@ -210,6 +234,8 @@ fn a_book_goes_on_over_a_script_that_changes_nothing() {
     // A version alone, a faulty script, an item written: nothing changes.
     assert_eq!(with(&[length(1), RUN]), 2);
     assert_eq!(with(&[length(8), RUN, command(18, 4, 0, 1)]), 2);
+    // Register 15 would be written, but the word after it is for register 24.
+    assert_eq!(with(&[length(11), command(18, 1, 0x9800, 6), RUN]), 2);
     // A status read alone leaves a fresh state as it is.
     assert_eq!(with(&[command(18, 4, 0, 1), length(4), RUN]), 2);
     assert_eq!(with(&[RUN]), 1);

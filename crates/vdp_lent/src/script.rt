@@ -2,7 +2,7 @@
 ghost use mathlib.Core.Path.{_≡_};
 ghost use Rattle.vdp_state.specs.State.{chip};
 ghost use Rattle.vdp_script.specs.Call.{scriptItemOutcome, scriptItem};
-ghost use Rattle.vdp_script.specs.Form.{judged};
+ghost use Rattle.vdp_script.specs.Judge.{judged};
 ghost use Rattle.vdp_script.specs.Run.{scriptOutcome, runScript};
 ghost use Rattle.vdp_script.specs.Write.{writeOutcome, writeKind};
 ghost use Rattle.vdp_lent.specs.Answer.{withItemState, withScriptState};
@@ -10,7 +10,7 @@ use crate::answer::LentItemAnswer;
 use crate::answer::LentScriptAnswer;
 use vdp_script::call::script_item;
 use vdp_script::form::Judged;
-use vdp_script::form::judge_script;
+use vdp_script::judge::judge_script;
 use vdp_script::run::run_script;
 use vdp_script::write::Written;
 use vdp_script::write::write_kind;
@@ -60,12 +60,12 @@ pub extern "C" fn kuthbareen_script_item<'a>(
     }
 }
 
-// Judges a script as a whole.
+// Judges a script as a whole, with this pending flag.
 #[no_mangle]
-pub extern "C" fn kuthbareen_judge_script(script: &[u8]) -> Judged
-    ensures { λ r. ⌜ r ≡ judged (now (script .entry)) ⌝ }
+pub extern "C" fn kuthbareen_judge_script(pending: bool, script: &[u8]) -> Judged
+    ensures { λ r. ⌜ r ≡ judged pending (now (script .entry)) ⌝ }
 {
-    judge_script(script)
+    judge_script(pending, script)
 }
 
 // Writes the item of a kind with this content at a byte of a script.

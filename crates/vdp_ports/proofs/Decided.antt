@@ -18,12 +18,15 @@ use Rattle.vdp_state.proofs.Facts.{DmaGood, parts, control-of, transfer-source,
 use Rattle.vdp_ports.specs.declared.access.Access.{Access}
 use Rattle.vdp_ports.specs.declared.access.Access.the-variants.{Write, Read, Nothing}
 use Rattle.vdp_ports.specs.declared.access.Memory.the-variants.{Vram, Cram, Vsram}
+use Rattle.vdp_ports.specs.declared.taken.Taken.{Taken}
+use Rattle.vdp_ports.specs.declared.taken.Taken.the-variants.{RegisterWrite, FirstHalf, SecondHalf}
 use Rattle.vdp_ports.specs.Access.{access, evenPlace, wordNumber, swapped, written}
-use Rattle.vdp_ports.specs.Control.{fillDropped, registerWrite, firstHalf, secondHalf, dmaStarted, dmaAfter, controlStep}
+use Rattle.vdp_ports.specs.Control.{fillDropped, registerWrite, firstHalf, secondHalf, dmaStarted, dmaAfter, takenStep, controlStep}
 use Rattle.vdp_ports.specs.Data.{fillBegun, portAfter, dataWriteStep, dataReadStep}
 use Rattle.vdp_ports.specs.Frame.{frameStep}
 use Rattle.vdp_ports.specs.Length.{register, units, unitsOf}
 use Rattle.vdp_ports.specs.Status.{statusStep}
+use Rattle.vdp_ports.specs.Taken.{takenAs, registerOf, hasRegister}
 
 -- ---- the DMA states that begin
 units-range : (n : ℕ) → n ≤ mostUnits → (0 < units n) × (units n ≤ mostUnits)
@@ -59,7 +62,7 @@ dropped-good d g = by-cond DmaGood (eqb (d .kind) 1) _ _ (λ e. (refl, lit< tt))
 register-good : (k : Control) (w : ℕ) → GoodControl k → GoodStep (registerWrite k w)
 register-good k w g =
     let p = parts k g in
-    by-cond GoodStep (ltb (w / 256 % 32) 24) _ _
+    by-cond GoodStep (hasRegister (registerOf w)) _ _
     (λ e. record { control = control-of _ (lit≤ tt) (p .address) (dropped-good (k .dma) (p .dma)) (p .timing); store = both e (lt-ltb (w % 256) 256 (omega arith)) })
     (λ e. record { control = g; store = refl })
 
@@ -74,11 +77,14 @@ second-good s w b g =
     let d : DmaGood (dmaAfter s w) = by-cond DmaGood (eqb (w / 128 % 2) 1 && eqb (register s 1 / 16 % 2) 1) _ _ (λ e. started-good s b) (λ e. p .dma) in
     record { control = control-of _ (omega arith) (omega arith) d (p .timing); store = refl }
 
+taken-good : (t : Taken) (c : Chip) (w : ℕ) → w < 65536 → GoodChip c → GoodStep (takenStep t (c .state) w)
+taken-good RegisterWrite c w h g = register-good (c .state .control) w (g .control)
+taken-good FirstHalf c w h g = first-good (c .state .control) w h (g .control)
+taken-good SecondHalf c w h g = second-good (c .state) w (g .registers) (g .control)
+
 pub control-good : (c : Chip) (w : ℕ) → w < 65536 → GoodChip c → GoodStep (controlStep (c .state) w)
 unfolding controlStep
-control-good c w h g =
-    by-cond GoodStep (c .state .control .port .pending) _ _ (λ e. second-good (c .state) w (g .registers) (g .control))
-    (λ e. by-cond GoodStep (eqb (w / 16384) 2) _ _ (λ f. register-good (c .state .control) w (g .control)) (λ f. first-good (c .state .control) w h (g .control)))
+control-good c w = taken-good (takenAs (c .state .control .port .pending) w) c w
 
 -- ---- stores
 pub colour-kept : (w : ℕ) → isColour (colourWord w) ≡ true

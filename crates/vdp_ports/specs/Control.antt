@@ -1,6 +1,6 @@
 -- The control port: definition, Ports and DMA; notes s7 and s11.
 use Prim.Native.Nat.{ℕ, _+_, _*_, _/_, _%_}
-use mathlib.Core.Bool.{Bool, true, false, cond, _&&_}
+use mathlib.Core.Bool.{Bool, cond, _&&_}
 use mathlib.Core.List.{List, [], _∷_}
 use lib.Dec.{eqb, ltb}
 use Rattle.vdp_state.specs.declared.answer.Answer.{Answer}
@@ -12,8 +12,11 @@ use Rattle.vdp_state.specs.declared.state.Step.{Step}
 use Rattle.vdp_state.specs.declared.state.Store.the-variants.{Nothing, Register}
 use Rattle.vdp_state.specs.Answer.{Test, first, answered}
 use Rattle.vdp_state.specs.State.{withPort, withDma}
+use Rattle.vdp_ports.specs.declared.taken.Taken.{Taken}
+use Rattle.vdp_ports.specs.declared.taken.Taken.the-variants.{RegisterWrite, FirstHalf, SecondHalf}
 use Rattle.vdp_ports.specs.Length.{register, unitsOf, words, bytes, idle, fillWaiting, transfer, copy}
 use Rattle.vdp_ports.specs.Refusal.{badState, busy}
+use Rattle.vdp_ports.specs.Taken.{takenAs, pendingLeft, registerOf, hasRegister}
 
 abbrev pub port : ℕ → ℕ → Bool → Port
 port address code pending = record { address = address; code = code; pending = pending }
@@ -26,15 +29,14 @@ byteWord b = 257 * b
 abbrev pub fillDropped : Dma → Dma
 fillDropped d = cond (eqb (d .kind) 1) idle d
 
--- "Its register is (word / 256) mod 32", "and its byte is the low byte of the word. A write to registers 24 to 31
--- changes nothing. A write to registers 0 to 23 stores the byte, makes the code 0 and drops a waiting fill; the address
--- stays."
+-- "its byte is the low byte of the word. A write to registers 24 to 31 changes nothing. A write to registers 0 to 23
+-- stores the byte, makes the code 0 and drops a waiting fill; the address stays."
 abbrev pub registerWrite : Control → ℕ → Step
 registerWrite c w =
-    cond (ltb (w / 256 % 32) 24)
+    cond (hasRegister (registerOf w))
     (record {
       control = withDma (withPort c (port (c .port .address) 0 (c .port .pending))) (fillDropped (c .dma));
-      store = Register (w / 256 % 32) (w % 256);
+      store = Register (registerOf w) (w % 256);
     })
     (record { control = c; store = Nothing })
 
@@ -45,7 +47,7 @@ firstHalf c w =
     record {
       control = withDma
           (withPort c
-          (port (c .port .address / 16384 * 16384 + w % 16384) (c .port .code / 4 * 4 + w / 16384) true))
+          (port (c .port .address / 16384 * 16384 + w % 16384) (c .port .code / 4 * 4 + w / 16384) (pendingLeft FirstHalf)))
           (fillDropped (c .dma));
       store = Nothing;
     }
@@ -70,15 +72,20 @@ secondHalf s w =
     record {
       control = withDma
           (withPort (s .control)
-          (port (w % 4 * 16384 + s .control .port .address % 16384) (w / 16 % 16 * 4 + s .control .port .code % 4) false))
+          (port (w % 4 * 16384 + s .control .port .address % 16384) (w / 16 % 16 * 4 + s .control .port .code % 4)
+          (pendingLeft SecondHalf)))
           (dmaAfter s w);
       store = Nothing;
     }
 
+-- what a word does, by how it is taken
+abbrev pub takenStep : Taken → State → ℕ → Step
+takenStep RegisterWrite s w = registerWrite (s .control) w
+takenStep FirstHalf s w = firstHalf (s .control) w
+takenStep SecondHalf s w = secondHalf s w
+
 unfoldable pub controlStep : State → ℕ → Step
-controlStep s w =
-    cond (s .control .port .pending) (secondHalf s w)
-    (cond (eqb (w / 16384) 0b10) (registerWrite (s .control) w) (firstHalf (s .control) w))
+controlStep s w = takenStep (takenAs (s .control .port .pending) w) s w
 
 abbrev pub controlTests : State → List Test
 controlTests s = badState s ∷ busy s ∷ []

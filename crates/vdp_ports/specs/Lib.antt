@@ -6,3 +6,4 @@ pub mod Length
 pub mod Parts
 pub mod Refusal
 pub mod Status
+pub mod Taken

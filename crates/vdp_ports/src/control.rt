@@ -11,6 +11,10 @@ use crate::length::pair;
 use crate::length::transfer;
 use crate::length::word_length;
 use crate::refusal::busy;
+use crate::taken::Taken;
+use crate::taken::has_register;
+use crate::taken::register_of;
+use crate::taken::taken_as;
 use vdp_state::answer::Answer;
 use vdp_state::answer::BAD_STATE;
 use vdp_state::answer::BUSY;
@@ -33,8 +37,8 @@ fn fill_dropped(d: Dma) -> Dma
 fn register_write(c: Control, w: u16) -> Step
     ensures { λ r. ⌜ r ≡ registerWrite c w ⌝ }
 {
-    let i = (w / 256 % 32) as u8;
-    if i < 24 {
+    let i = register_of(w);
+    if has_register(i) {
         let mut port = c.port;
         port.code = 0;
         let dma = fill_dropped(c.dma);
@@ -130,13 +134,10 @@ fn second_half(s: State, w: u16) -> Step
 pub fn control_step(s: State, w: u16) -> Step
     ensures { λ r. ⌜ r ≡ controlStep s w ⌝ }
 {
-    if s.control.port.pending {
-        return second_half(s, w);
-    }
-    if w / 16384 == 0b10 {
-        register_write(s.control, w)
-    } else {
-        first_half(s.control, w)
+    match taken_as(s.control.port.pending, w) {
+        Taken::RegisterWrite => register_write(s.control, w),
+        Taken::FirstHalf => first_half(s.control, w),
+        Taken::SecondHalf => second_half(s, w),
     }
 }
 

@@ -8,3 +8,4 @@ pub mod length;
 pub mod parts;
 pub mod refusal;
 pub mod status;
+pub mod taken;

@@ -4,7 +4,7 @@
 --     there                        a form that is not faulty has a whole item where bytes are left
 --     some-left, none-left, inside, further    the same at a byte of a script
 --     judged-start, judged-at, judged-further  what is judged so far and what is left of it
---     wrong-version, right-version, has-version    the form of a whole script, by its version
+--     wrong-version, right-version, has-version, right-form    the form of a whole script, by its version
 use Prim.Native.Nat.{ℕ, zero, suc, _+_, _<_, _≤_}
 use mathlib.Core.Path.{_≡_, refl, sym, ap, _∙_}
 use mathlib.Core.Bool.{Bool, true, false, true≢false}
@@ -20,7 +20,7 @@ use Rattle.vdp_script.specs.declared.item.Item.{Item}
 use Rattle.vdp_script.specs.declared.item.Found.{Found}
 use Rattle.vdp_script.specs.declared.item.Found.the-variants.{Whole, Faulty}
 use Rattle.vdp_script.specs.declared.form.Judged.{Judged}
-use Rattle.vdp_script.specs.Form.{Form, form, before, others, itemsFrom, version, formOf, badScript, judgedAs}
+use Rattle.vdp_script.specs.Form.{Form, form, before, others, itemsFrom, version, formOf, badScript, formJudged}
 use Rattle.vdp_script.specs.Item.{lengthOf, itemBytes, byteAfter, itemOf}
 use Rattle.vdp_script.proofs.Items.{size, whole-fits}
 
@@ -52,6 +52,10 @@ pub there : (bytes : List ℕ) → 0 < length bytes → itemsFrom 0 bytes .fault
 there bytes = there-found bytes (itemOf bytes) refl
 
 -- ---- at a byte of a script
+-- the items from there on
+abbrev pub itemsAt : List ℕ → ℕ → List Item
+itemsAt script at = itemsFrom 0 (drop at script) .items
+
 module _ (script : List ℕ) (at : ℕ) where
   pub some-left : at < length script → 0 < length (drop at script)
   some-left h = omega (arith, length-drop at script)
@@ -73,7 +77,7 @@ judgedAfter place f = record { number = first (badScript f ∷ []); place = plac
 abbrev pub judgement : ℕ → ℕ → Judged
 judgement number place = record { number = number; place = place }
 
-pub judged-start : (f : Form) → judgedAfter 0 f ≡ judgedAs f
+pub judged-start : (f : Form) → judgedAfter 0 f ≡ formJudged f
 judged-start f = ap (judgement (first (badScript f ∷ []))) (let n : 0 + length (f .items) ≡ length (f .items) = omega arith in n)
 
 pub judged-at : (place : ℕ) (faulty : Bool) → judgedAfter place (form [] faulty) ≡ judgement (first (badScript (form [] faulty) ∷ [])) place
@@ -101,3 +105,7 @@ pub has-version : (script : List ℕ) → formOf script .faulty ≡ false → ge
 has-version script e =
     by-cases (eqb (getD script 0 0) version) (eqb-true (getD script 0 0) version)
     (λ t. absurd (true≢false (sym (ap (λ (f : Form). f .faulty) (wrong-version script (eqb-false (getD script 0 0) version t))) ∙ e)))
+
+-- so its items are those behind the version
+pub right-form : (script : List ℕ) → formOf script .faulty ≡ false → formOf script ≡ itemsFrom 0 (drop 1 script)
+right-form script e = right-version script (has-version script e)

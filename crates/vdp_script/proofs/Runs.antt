@@ -7,8 +7,8 @@
 --     turn-done                 it is done, and the run goes on behind the item
 --     turn-further              then the next item begins further on, inside the script, and the rest is well formed
 use Prim.Native.Nat.{ℕ, _+_, _<_, _≤_}
-use mathlib.Core.Path.{_≡_, refl, sym, ap, _∙_}
-use mathlib.Core.Bool.{Bool, true, false, cond}
+use mathlib.Core.Path.{_≡_, sym, ap, _∙_}
+use mathlib.Core.Bool.{Bool, false, cond}
 use mathlib.Core.List.{List}
 use native.Mathlib.Omega.{arith}
 use borrow.Author.Tests.{eq-eqb, ne-eqb}
@@ -21,31 +21,25 @@ use Rattle.vdp_script.specs.declared.item.Item.{Item}
 use Rattle.vdp_script.specs.declared.item.Found.{Found}
 use Rattle.vdp_script.specs.declared.item.Found.the-variants.{Whole}
 use Rattle.vdp_script.specs.Call.{callItem, ScriptItemOutcome, scriptItemOutcome, called, callFound, scriptItem}
-use Rattle.vdp_script.specs.Form.{Form, form, before, itemsFrom, formOf, judgedAs, judged}
+use Rattle.vdp_script.specs.Form.{Form, before, itemsFrom, formOf}
 use Rattle.vdp_script.specs.Item.{byteAfter, itemOf}
+use Rattle.vdp_script.specs.Judge.{judged}
 use Rattle.vdp_script.specs.Run.{ScriptOutcome, endedAt, runItems, runScript}
 use Rattle.vdp_script.proofs.Calls.{next-byte, goes-further}
-use Rattle.vdp_script.proofs.Forms.{there, some-left, none-left, inside, further, right-version, has-version}
-
--- the items of a script from a byte on
-abbrev pub itemsAt : List ℕ → ℕ → List Item
-itemsAt script at = itemsFrom 0 (drop at script) .items
+use Rattle.vdp_script.proofs.Forms.{itemsAt, there, some-left, none-left, inside, further, right-form}
+use Rattle.vdp_script.proofs.Judges.{sound}
 
 abbrev pub WellFormedAt : List ℕ → ℕ → Type 0
 WellFormedAt script at = itemsFrom 0 (drop at script) .faulty ≡ false
 
 -- ---- a script as it was judged
-sound : (items : List Item) (faulty : Bool) → judgedAs (form items faulty) .number ≡ 0 → faulty ≡ false
-sound items true e = absurd (let bad : ⊥ = omega arith in bad)
-sound items false e = refl
-
-pub well-formed : (script : List ℕ) → judged script .number ≡ 0 → (formOf script ≡ itemsFrom 0 (drop 1 script)) × WellFormedAt script 1
-well-formed script e =
-    let whole : formOf script .faulty ≡ false = sound (formOf script .items) (formOf script .faulty) e in
-    let items : formOf script ≡ itemsFrom 0 (drop 1 script) = right-version script (has-version script whole) in
+pub well-formed : (pending : Bool) (script : List ℕ) → judged pending script .number ≡ 0 → (formOf script ≡ itemsFrom 0 (drop 1 script)) × WellFormedAt script 1
+well-formed pending script e =
+    let whole : formOf script .faulty ≡ false = sound pending (formOf script) e in
+    let items : formOf script ≡ itemsFrom 0 (drop 1 script) = right-form script whole in
     (items, sym (ap (λ (f : Form). f .faulty) items) ∙ whole)
 
-module _ (script cartridge ram : List ℕ) (c : Chip) (pixels : List ℕ) (j : Judged) (e : j ≡ judged script) where
+module _ (script cartridge ram : List ℕ) (c : Chip) (pixels : List ℕ) (j : Judged) (e : j ≡ judged (c .state .control .port .pending) script) where
   abbrev runJudged : Judged → ScriptOutcome
   runJudged x =
       cond (eqb (x .number) 0) (runItems (formOf script .items) 0 cartridge ram c pixels)
@@ -57,7 +51,7 @@ module _ (script cartridge ram : List ℕ) (c : Chip) (pixels : List ℕ) (j : J
   pub run-form : j .number ≡ 0 → runItems (itemsAt script 1) 0 cartridge ram c pixels ≡ runScript script cartridge ram c pixels
   run-form z =
       let left : runJudged j ≡ runItems (formOf script .items) 0 cartridge ram c pixels = simp (eq-eqb (j .number) 0 z) in
-      sym (ap (λ (f : Form). runItems (f .items) 0 cartridge ram c pixels) (well-formed script (sym (ap (λ (x : Judged). x .number) e) ∙ z) .0)) ∙ sym left ∙ ap runJudged e
+      sym (ap (λ (f : Form). runItems (f .items) 0 cartridge ram c pixels) (well-formed (c .state .control .port .pending) script (sym (ap (λ (x : Judged). x .number) e) ∙ z) .0)) ∙ sym left ∙ ap runJudged e
 
 -- ---- at a byte where an item begins
 module _ (script cartridge ram : List ℕ) (place : ℕ) (c : Chip) (pixels : List ℕ) where

@@ -5,7 +5,7 @@
 --     runs-as-written     a script that was written runs its items
 use Prim.Native.Nat.{ℕ, zero, suc, _+_, _/_, _%_, _<_, _≤_}
 use mathlib.Core.Path.{_≡_, refl, sym, ap, ap₂, _∙_}
-use mathlib.Core.Bool.{false, cond}
+use mathlib.Core.Bool.{Bool, false, cond}
 use mathlib.Core.List.{List, [], _∷_, _++_}
 use native.Mathlib.Omega.{arith}
 use borrow.Author.Tests.{eqb-true}
@@ -21,11 +21,13 @@ use Rattle.vdp_script.specs.declared.item.Found.{Found}
 use Rattle.vdp_script.specs.declared.item.Found.the-variants.{Whole}
 use Rattle.vdp_script.specs.Form.{Form, form, before, itemsFrom, version, formOf}
 use Rattle.vdp_script.specs.Item.{word, kindOf, contentOf, lengthOf, itemBytes, byteAfter, itemFrom, itemOf}
-use Rattle.vdp_script.specs.Run.{runForm}
+use Rattle.vdp_script.specs.Judge.{judgedAs}
+use Rattle.vdp_script.specs.Run.{endedAt, runItems, runForm}
 use Rattle.vdp_script.specs.Whole.{itemsWritten, scriptOf, writeItems, WrittenInTurn, ReadsBack, WritesBack, RunsAsWritten}
 use Rattle.vdp_script.specs.Write.{WriteOutcome, writeOutcome, written, writeItem}
 use Rattle.vdp_script.proofs.Forms.{behind, at-whole, there, right-version, has-version}
 use Rattle.vdp_script.proofs.Items.{word-back, size, few, whole, whole-fits, Fits}
+use Rattle.vdp_script.proofs.Judges.{nothing-missing}
 use Rattle.vdp_script.proofs.Writes.{room}
 
 -- ---- what was written is read
@@ -54,7 +56,11 @@ pub reads-back : ReadsBack
 reads-back items = right-version (scriptOf items) refl ∙ items-back items
 
 pub runs-as-written : RunsAsWritten
-runs-as-written items cartridge ram c pixels = ap (λ (f : Form). runForm f cartridge ram c pixels) (reads-back items)
+runs-as-written items cartridge ram c pixels e =
+    let pending : Bool = c .state .control .port .pending in
+    ap (λ (f : Form). runForm f cartridge ram c pixels) (reads-back items)
+    ∙ ap (λ (n : ℕ). cond (eqb n 0) (runItems items 0 cartridge ram c pixels) (endedAt n (judgedAs pending (form items false) .place) (c .state) (c .vram) pixels))
+    (nothing-missing pending items e)
 
 -- ---- what was read is written
 -- an item of a kind and a content has that kind, and its bytes of content are those of the number

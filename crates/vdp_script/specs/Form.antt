@@ -1,4 +1,4 @@
--- The form of a script, and judging it: definition, Scripts, The form.
+-- The form of a script: definition, Scripts, The form.
 use Prim.Native.Nat.{ℕ, zero, suc, _+_}
 use mathlib.Core.Bool.{Bool, true, false, cond}
 use mathlib.Core.List.{List, [], _∷_}
@@ -47,10 +47,6 @@ formOf script = cond (eqb (getD script 0 0) version) (itemsFrom 0 (drop 1 script
 abbrev pub badScript : Form → Test
 badScript f = gives 11 (f .faulty)
 
--- "A script that is judged answers 11 if it is not well formed, and its result is then the place of the first faulty
--- item [..]. Else it answers 0, and its result is how many items it has."
-abbrev pub judgedAs : Form → Judged
-judgedAs f = record { number = first (badScript f ∷ []); place = length (f .items) }
-
-abbrev pub judged : List ℕ → Judged
-judged script = judgedAs (formOf script)
+-- the form alone, as it is judged
+abbrev pub formJudged : Form → Judged
+formJudged f = record { number = first (badScript f ∷ []); place = length (f .items) }

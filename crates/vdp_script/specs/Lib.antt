@@ -3,6 +3,8 @@ pub mod Bench
 pub mod Call
 pub mod Form
 pub mod Item
+pub mod Judge
+pub mod Missing
 pub mod Run
 pub mod Whole
 pub mod Write

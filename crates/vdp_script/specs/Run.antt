@@ -5,10 +5,12 @@ use mathlib.Core.List.{List, [], _∷_}
 use lib.Dec.{eqb}
 use Rattle.vdp_state.specs.declared.state.State.{State}
 use Rattle.vdp_state.specs.State.{Chip, chip}
+use Rattle.vdp_script.specs.declared.form.Judged.{Judged}
 use Rattle.vdp_script.specs.declared.item.Item.{Item}
 use Rattle.vdp_script.specs.declared.run.ScriptAnswer.{ScriptAnswer}
 use Rattle.vdp_script.specs.Call.{ItemOutcome, callItem}
-use Rattle.vdp_script.specs.Form.{Form, formOf, judgedAs}
+use Rattle.vdp_script.specs.Form.{Form, formOf}
+use Rattle.vdp_script.specs.Judge.{judgedAs}
 
 -- what a run script leaves: its answer, VRAM and the pixel buffer
 pub record ScriptOutcome : Type 0 where
@@ -34,12 +36,13 @@ runItems (i ∷ items) place cartridge ram c pixels =
     cond (eqb (o .answer .number) 0) (runItems items (place + 1) cartridge ram (chip (o .answer .state) (o .vram)) (o .pixels))
     (endedAt (o .answer .number) place (o .answer .state) (o .vram) (o .pixels))
 
--- "A script that is run is judged first, as a whole. If it is not well formed, the answer is 11 with the place, and no
--- call is made."
+-- "A script that is run is judged first, with the pending flag of the state. If it is refused there, that number and its
+-- place are the answer, and no call is made."
 abbrev pub runForm : Form → List ℕ → List ℕ → Chip → List ℕ → ScriptOutcome
 runForm f cartridge ram c pixels =
-    cond (eqb (judgedAs f .number) 0) (runItems (f .items) 0 cartridge ram c pixels)
-    (endedAt (judgedAs f .number) (judgedAs f .place) (c .state) (c .vram) pixels)
+    let j : Judged = judgedAs (c .state .control .port .pending) f in
+    cond (eqb (j .number) 0) (runItems (f .items) 0 cartridge ram c pixels)
+    (endedAt (j .number) (j .place) (c .state) (c .vram) pixels)
 
 abbrev pub runScript : List ℕ → List ℕ → List ℕ → Chip → List ℕ → ScriptOutcome
 runScript script cartridge ram c pixels = runForm (formOf script) cartridge ram c pixels

@@ -1,7 +1,7 @@
--- Whole scripts written and read: definition, Scripts, Writing.
+-- Whole scripts written, read and run: definition, Scripts, Writing, Running and Missing registers.
 use Prim.Native.Nat.{ℕ, _≤_}
 use mathlib.Core.Path.{_≡_}
-use mathlib.Core.Bool.{false, cond}
+use mathlib.Core.Bool.{Bool, false, cond, _||_}
 use mathlib.Core.List.{List, [], _∷_, _++_}
 use lib.Dec.{eqb}
 use lib.ListN.{length, getD}
@@ -9,8 +9,10 @@ use lib.Seq.{sets}
 use Rattle.vdp_state.specs.Range.{AllBytes}
 use Rattle.vdp_state.specs.State.{Chip}
 use Rattle.vdp_script.specs.declared.item.Item.{Item}
+use Rattle.vdp_script.specs.declared.run.ScriptAnswer.{ScriptAnswer}
 use Rattle.vdp_script.specs.Form.{form, formOf, version}
 use Rattle.vdp_script.specs.Item.{itemBytes}
+use Rattle.vdp_script.specs.Missing.{anyMissing}
 use Rattle.vdp_script.specs.Run.{runItems, runScript}
 use Rattle.vdp_script.specs.Write.{WriteOutcome, writeOutcome, written, writeItem}
 
@@ -45,8 +47,20 @@ ReadsBack = (items : List Item) → formOf (scriptOf items) ≡ form items false
 abbrev pub WritesBack : Type 0
 WritesBack = (script : List ℕ) → AllBytes script → formOf script .faulty ≡ false → scriptOf (formOf script .items) ≡ script
 
--- the claim: a script that was written and is run makes the calls of its items, one after the other
+-- the claim: "a script that was written and is run, and of which no item names a missing register, makes the calls of its
+-- items, one after the other"
 abbrev pub RunsAsWritten : Type 0
 RunsAsWritten =
     (items : List Item) (cartridge ram : List ℕ) (c : Chip) (pixels : List ℕ)
+    → anyMissing (c .state .control .port .pending) items ≡ false
     → runScript (scriptOf items) cartridge ram c pixels ≡ runItems items 0 cartridge ram c pixels
+
+-- the claim: "if the calls of items are done, one after the other, what follows them is judged by the pending flag of the
+-- state that they leave"
+abbrev pub PendingAsCalled : Type 0
+PendingAsCalled =
+    (items rest : List Item) (cartridge ram : List ℕ) (c : Chip) (pixels : List ℕ)
+    → let left : ScriptAnswer = runItems items 0 cartridge ram c pixels .answer in
+    let pending : Bool = c .state .control .port .pending in
+    left .number ≡ 0
+    → anyMissing pending (items ++ rest) ≡ (anyMissing pending items || anyMissing (left .state .control .port .pending) rest)

@@ -1,8 +1,9 @@
-// A script as the program `script` judges it: it has a limit on the length (definition, Scripts, The program).
+// A script as the program `script` judges it: it has a limit on the length, and begins in a fresh state (definition,
+// Scripts, The program).
 ghost use mathlib.Core.Path.{_≡_};
 ghost use Rattle.vdp_script.specs.Admitted.{admitted as admittedAs};
 use crate::form::Judged;
-use crate::form::judge_script;
+use crate::judge::judge_script;
 use vdp_state::answer::BAD_BUFFER;
 
 pub const MOST_BYTES: usize = 16384;
@@ -16,5 +17,5 @@ pub fn admitted(script: &[u8]) -> Judged
             place: 0,
         };
     }
-    judge_script(script)
+    judge_script(false, script)
 }

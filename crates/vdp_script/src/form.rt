@@ -1,7 +1,7 @@
-// The form of a script, judged as a whole (definition, Scripts, The form).
+// The form of a script (definition, Scripts, The form).
 ghost use mathlib.Core.Path.{_≡_};
 ghost use lib.ListN.{drop};
-ghost use Rattle.vdp_script.specs.Form.{itemsFrom, judgedAs, judged};
+ghost use Rattle.vdp_script.specs.Form.{itemsFrom, formOf, formJudged};
 use crate::item::Found;
 use crate::item::byte_after;
 use crate::item::item_at;
@@ -11,7 +11,7 @@ use vdp_state::cell::byte_at;
 
 pub const VERSION: u8 = 1;
 
-// The number, and the place of the first faulty item, or how many items there are.
+// The number, and the place of the item that is refused, or how many items there are.
 #[repr(C)]
 pub struct Judged {
     pub number: u8,
@@ -20,7 +20,7 @@ pub struct Judged {
 
 // Judges the items behind the version.
 fn judge_items(script: &[u8]) -> Judged
-    ensures { λ r. ⌜ r ≡ judgedAs (itemsFrom 0 (drop 1 (now (script .entry)))) ⌝ }
+    ensures { λ r. ⌜ r ≡ formJudged (itemsFrom 0 (drop 1 (now (script .entry)))) ⌝ }
 {
     let mut at = 1;
     let mut place = 0;
@@ -41,9 +41,9 @@ fn judge_items(script: &[u8]) -> Judged
     }
 }
 
-// Judges a script: its version and all its items.
-pub fn judge_script(script: &[u8]) -> Judged
-    ensures { λ r. ⌜ r ≡ judged (now (script .entry)) ⌝ }
+// Judges the form of a script: its version and all its items.
+pub(crate) fn judge_form(script: &[u8]) -> Judged
+    ensures { λ r. ⌜ r ≡ formJudged (formOf (now (script .entry))) ⌝ }
 {
     if byte_at(script, 0) != VERSION {
         return Judged {

@@ -3,5 +3,7 @@ pub mod admitted;
 pub mod call;
 pub mod form;
 pub mod item;
+pub mod judge;
+mod missing;
 pub mod run;
 pub mod write;

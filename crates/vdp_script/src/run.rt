@@ -6,7 +6,7 @@ ghost use Rattle.vdp_state.specs.State.{chip};
 ghost use Rattle.vdp_script.specs.Form.{itemsFrom};
 ghost use Rattle.vdp_script.specs.Run.{scriptOutcome, runItems, runScript};
 use crate::call::script_item;
-use crate::form::judge_script;
+use crate::judge::judge_script;
 use vdp_state::answer::DONE;
 use vdp_state::state::State;
 
@@ -66,7 +66,7 @@ pub fn run_script<'a>(
     ensures { λ r. ⌜ scriptOutcome r (now (vram .exit)) (now (pixels .exit))
         ≡ runScript (now (script .entry)) (now (cartridge .entry)) (now (ram .entry)) (chip s (now (vram .entry))) (now (pixels .entry)) ⌝ }
 {
-    let judged = judge_script(script);
+    let judged = judge_script(s.control.port.pending, script);
     if judged.number != DONE {
         return ScriptAnswer {
             number: judged.number,

@@ -30,6 +30,8 @@ pub const NOTHING_THERE: u8 = 10;
 
 pub const BAD_SCRIPT: u8 = 11;
 
+pub const MISSING_REGISTER: u8 = 12;
+
 // The number, the word read, units made or visits (else 0), and the state after the call.
 pub struct Answer {
     pub number: u8,

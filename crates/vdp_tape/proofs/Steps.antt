@@ -1,5 +1,5 @@
 -- Outcomes of recorded calls, and loops that go over the records of a tape.
-use Prim.Native.Nat.{ℕ, suc, _+_, _-_, _*_, _/_, _%_, _<_, _≤_}
+use Prim.Native.Nat.{ℕ, suc, _+_, _-_, _*_, _<_, _≤_}
 use mathlib.Core.Path.{_≡_, refl, sym, ap, ap₂, _∙_}
 use mathlib.Core.Bool.{false, not, _&&_, _||_}
 use mathlib.Core.List.{List, [], _∷_}
@@ -15,7 +15,10 @@ use Rattle.vdp_state.specs.Cell.{perform, undoing, present, storedIn}
 use Rattle.vdp_state.specs.Good.{good}
 use Rattle.vdp_state.specs.State.{Chip, chip}
 use Rattle.vdp_state.proofs.Bools.{by-cases, by-cond, none, cond-zero}
-use Rattle.vdp_ports.specs.Control.{controlStep}
+use Rattle.vdp_ports.specs.declared.taken.Taken.{Taken}
+use Rattle.vdp_ports.specs.declared.taken.Taken.the-variants.{RegisterWrite, FirstHalf, SecondHalf}
+use Rattle.vdp_ports.specs.Control.{takenStep, controlStep}
+use Rattle.vdp_ports.specs.Taken.{takenAs, registerOf, hasRegister}
 use Rattle.vdp_tape.specs.Number.{capacity, recordedNumber}
 use Rattle.vdp_tape.specs.OneStep.{OneStep, OffVram}
 use Rattle.vdp_tape.specs.Record.{stepOf, goodRecord, recordAt}
@@ -64,12 +67,14 @@ beside-vram vram s tape count t number result off =
     let o = off-vram s vram (t .store) off in by-cases (eqb number 0) (λ e. simp (e, o .0, o .1)) (λ e. simp e)
 
 -- a control word stores a register or nothing
+taken-off : (t : Taken) (s : State) (w : ℕ) → OffVram (takenStep t s w .store)
+taken-off RegisterWrite s w = by-cond (λ (t : Step). OffVram (t .store)) (hasRegister (registerOf w)) _ _ (λ h. tt) (λ h. tt)
+taken-off FirstHalf s w = tt
+taken-off SecondHalf s w = tt
+
 pub control-off : (s : State) (w : ℕ) → OffVram (controlStep s w .store)
 unfolding controlStep
-control-off s w =
-    let Off : Step → Type 0 = λ t. OffVram (t .store) in
-    by-cond Off (s .control .port .pending) _ _ (λ e. tt)
-    (λ e. by-cond Off (eqb (w / 16384) 2) _ _ (λ f. by-cond Off (ltb (w / 256 % 32) 24) _ _ (λ h. tt) (λ h. tt)) (λ f. tt))
+control-off s w = taken-off (takenAs (s .control .port .pending) w) s w
 
 -- ---- loops over the records of a tape
 module _ (tape : List ℕ) (top left : ℕ) where

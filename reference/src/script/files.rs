@@ -1,9 +1,11 @@
 //! Script files for the program `script`: some by chance, each with all its beginnings and with
-//! each of its bytes changed, and some at the edges of what the program takes.
+//! each of its bytes changed, some at the edges of what the program takes, and some with words for
+//! missing registers.
 
 use super::program::{self, MOST_BYTES};
 use super::{script_of, Item, VERSION};
 use crate::streams::script::items::{all, any_item, done, look, phrase, sprites, written_and_read};
+use crate::streams::script::missing::{missing, put_among};
 use crate::streams::script::stopped;
 use crate::streams::{Kind, Maker};
 
@@ -14,14 +16,19 @@ const MOST_ITEMS: usize = 22;
 /// A file's name and its bytes.
 pub type File = (String, Vec<u8>);
 
-/// So many scripts by chance with all that is made of them, and the edges; the same for a seed.
+/// So many scripts by chance with all that is made of them, the edges and the missing registers; the
+/// same for a seed. Every fourth of those by chance has a word for a missing register.
 pub fn files(seed: u64, count: usize) -> Vec<File> {
     let mut maker = Maker::new(seed, Kind::Script, usize::MAX);
     maker.machine = program::start();
     let mut files = edges(&mut maker);
+    files.extend(missing_registers(&mut maker));
     for number in 1..=count {
-        let script = script_of(&some_items(&mut maker));
-        files.extend(around(&mut maker, &format!("random-{number:04}"), &script));
+        let mut items = some_items(&mut maker);
+        if number % 4 == 0 {
+            put_among(&mut maker, &mut items);
+        }
+        files.extend(around(&mut maker, &format!("random-{number:04}"), &script_of(&items)));
     }
     files
 }
@@ -83,10 +90,69 @@ fn edges(maker: &mut Maker) -> Vec<File> {
         ("zeros-16384", vec![0; MOST_BYTES]),
         ("zeros-16385", vec![0; MOST_BYTES + 1]),
     ];
-    let file = |(number, (name, bytes)): (i32, (&str, Vec<u8>))| {
-        (format!("edge-{number:02}-{name}.script"), bytes)
+    numbered("edge", &edges)
+}
+
+/// Files of one sort, in this order.
+fn numbered(sort: &str, scripts: &[(&str, Vec<u8>)]) -> Vec<File> {
+    let file = |(number, (name, bytes)): (i32, &(&str, Vec<u8>))| {
+        (format!("{sort}-{number:02}-{name}.script"), bytes.clone())
     };
-    (1..).zip(edges).map(file).collect()
+    (1..).zip(scripts).map(file).collect()
+}
+
+/// Words for missing registers: some are turned down, and some are second halves.
+fn missing_registers(maker: &mut Maker) -> Vec<File> {
+    let (word, another) = (missing(maker), missing(maker));
+    let [half, second, lines] = [maker.first_half(), maker.word(), 0x8144].map(Item::ControlWrite);
+    let after = |item: Item| script_of(&[lines, half, item, word, Item::StatusRead]);
+    let words = [
+        ("alone", script_of(&[word])),
+        ("two", script_of(&[lines, word, another])),
+        ("after-a-first-half", script_of(&[lines, half, word, Item::StatusRead])),
+        ("after-a-second-half", after(second)),
+        ("after-a-second-half-like-it", after(another)),
+        ("after-a-data-write", after(Item::DataWrite(0x1234))),
+        ("after-a-data-read", after(Item::DataRead)),
+        ("after-a-status-read", after(Item::StatusRead)),
+        ("after-a-run", after(Item::Run(1))),
+        ("after-a-line", after(Item::Line(0))),
+        ("after-a-new-frame", after(Item::NewFrame)),
+        ("after-a-call-that-is-refused", script_of(&[lines, Item::Line(240), word])),
+        ("before-a-call-that-is-refused", script_of(&[lines, word, Item::Line(240)])),
+    ];
+    [numbered("missing", &words), beside_more(maker, word), each_register(maker)].concat()
+}
+
+/// The last register that there is and each missing one, with bit 13 clear and set, at place 0.
+fn each_register(maker: &mut Maker) -> Vec<File> {
+    let mut files = Vec::new();
+    for number in 23..32 {
+        for (bit_13, flag) in [(0, "clear"), (0x2000, "set")] {
+            let word = 0x8000 | bit_13 | number << 8 | u16::from(maker.byte());
+            let script = script_of(&[Item::ControlWrite(word), Item::StatusRead]);
+            files.push((format!("register-{number}-bit-13-{flag}.script"), script));
+        }
+    }
+    files
+}
+
+/// A word for a missing register in scripts that are faulty, and in ones of the most bytes.
+fn beside_more(maker: &mut Maker, word: Item) -> Vec<File> {
+    let (alone, no_kind) = (script_of(&[word]), [0, 1, 8]);
+    let last_of = |size: usize, maker: &mut Maker| {
+        [of_size(maker, size - word.bytes().len()), word.bytes()].concat()
+    };
+    let scripts = [
+        ("faulty-item-before", [&[VERSION], &no_kind[..], &word.bytes()].concat()),
+        ("faulty-item-behind", [&alone[..], &no_kind].concat()),
+        ("cut", alone[..alone.len() - 1].to_vec()),
+        ("cut-item-behind", [&alone[..], &no_kind[..1]].concat()),
+        ("version-2", [&[2], &alone[1..]].concat()),
+        ("last-of-16384", last_of(MOST_BYTES, maker)),
+        ("last-of-16385", last_of(MOST_BYTES + 1, maker)),
+    ];
+    numbered("missing-with-more", &scripts)
 }
 
 /// A well formed script of so many bytes, at least 36, whose calls are all done. It ends with items
@@ -117,10 +183,14 @@ fn with_last_kind_wrong(mut script: Vec<u8>) -> Vec<u8> {
 
 #[cfg(test)]
 mod tests {
+    use std::collections::BTreeSet;
+
     use super::*;
-    use crate::answer::DONE;
-    use crate::script::form::judged;
+    use crate::answer::{DONE, MISSING_REGISTER};
+    use crate::script::form;
+    use crate::script::judge::first_missing;
     use crate::script::program::told;
+    use crate::script::tests::judged_clear as judged;
 
     fn find<'a>(files: &'a [File], name: &str) -> &'a [u8] {
         let file = files.iter().find(|(file, _)| file == name);
@@ -157,27 +227,101 @@ mod tests {
         }
     }
 
-    /// Some end done, and some with a refused call that is neither the first nor the last item.
+    /// Some end done, some with a refused call that is neither the first nor the last item, and some
+    /// are turned down, at this place and that.
     #[test]
     fn scripts_by_chance_are_well_formed() {
-        let (mut done, mut refused) = (0, 0);
+        let (mut done, mut refused, mut places) = (0, 0, BTreeSet::new());
         for (name, bytes) in files(2, 60).iter().filter(|(name, _)| name.ends_with("-whole.script"))
         {
-            let (number, items) = judged(bytes);
-            assert_eq!(number, DONE, "{name}");
-            assert!((3..=30).contains(&items), "{name}: {items} items");
+            let items = form::items(bytes).unwrap_or_default().len();
+            assert!((3..=33).contains(&items), "{name}: {items} items");
+            let (number, place) = judged(bytes);
             let told = told(bytes);
+            let called = number == DONE;
+            assert!(called || number == MISSING_REGISTER, "{name}: {number}");
             done += u32::from(told.done);
-            refused += u32::from(!told.done && (2..items as usize).contains(&told.lines.len()));
+            refused += u32::from(called && !told.done && (2..items).contains(&told.lines.len()));
+            places.extend((!called).then_some(place));
         }
         assert!(done > 15 && refused > 10, "{done} and {refused}");
+        assert!(places.len() > 5, "{places:?}");
+    }
+
+    /// What is made of a script with such a word is often faulty as well.
+    #[test]
+    fn scripts_by_chance_that_are_faulty_and_name_missing_registers() {
+        let both_due = |script: &[u8]| {
+            let whole = (0..script.len()).rev().find_map(|end| form::items(&script[..end]).ok());
+            form::items(script).is_err()
+                && whole.is_some_and(|items| first_missing(&items, false).is_some())
+        };
+        let files = files(4, 8);
+        let random = files.iter().filter(|(name, _)| name.starts_with("random-"));
+        let (faulty, named) = random.fold((0, 0), |(faulty, named), (_, script)| {
+            let (number, _) = judged(script);
+            (faulty + u32::from(both_due(script)), named + u32::from(number == MISSING_REGISTER))
+        });
+        assert!(faulty > 20 && named > 20, "{faulty} and {named}");
+    }
+
+    /// The one line of each script that is refused before its calls. What a word stands after has a
+    /// register write and a first half before it.
+    const ONE_LINE: [(&str, &str); 15] = [
+        ("missing-01-alone", "0 12 0000"),
+        ("missing-02-two", "1 12 0000"),
+        ("missing-04-after-a-second-half", "3 12 0000"),
+        ("missing-05-after-a-second-half-like-it", "3 12 0000"),
+        ("missing-06-after-a-data-write", "3 12 0000"),
+        ("missing-07-after-a-data-read", "3 12 0000"),
+        ("missing-08-after-a-status-read", "3 12 0000"),
+        ("missing-12-after-a-call-that-is-refused", "2 12 0000"),
+        ("missing-13-before-a-call-that-is-refused", "1 12 0000"),
+        ("missing-with-more-01-faulty-item-before", "0 11 0000"),
+        ("missing-with-more-02-faulty-item-behind", "1 11 0000"),
+        ("missing-with-more-03-cut", "0 11 0000"),
+        ("missing-with-more-04-cut-item-behind", "1 11 0000"),
+        ("missing-with-more-05-version-2", "0 11 0000"),
+        ("missing-with-more-07-last-of-16385", "0 2 0000"),
+    ];
+
+    /// The calls of each script whose word is a second half.
+    const SECOND_HALVES: [(&str, usize); 4] = [
+        ("missing-03-after-a-first-half", 4),
+        ("missing-09-after-a-run", 5),
+        ("missing-10-after-a-line", 5),
+        ("missing-11-after-a-new-frame", 5),
+    ];
+
+    #[test]
+    fn missing_registers_for_the_program() {
+        for seed in 1..=20 {
+            let files = files(seed, 0);
+            let told = |name: &str| told(find(&files, &format!("{name}.script")));
+            for (name, line) in ONE_LINE {
+                assert_eq!(told(name).lines, [line], "{name}");
+            }
+            for (name, calls) in SECOND_HALVES {
+                assert_eq!((told(name).lines.len(), told(name).done), (calls, true), "{name}");
+            }
+            for number in 23..32 {
+                let line = if number == 23 { "1 0 3600" } else { "0 12 0000" };
+                for flag in ["clear", "set"] {
+                    let lines = told(&format!("register-{number}-bit-13-{flag}")).lines;
+                    assert_eq!(lines.last().map(String::as_str), Some(line));
+                }
+            }
+            let last = find(&files, "missing-with-more-06-last-of-16384.script");
+            let items = form::items(last).unwrap_or_default().len();
+            assert_eq!((last.len(), judged(last)), (16_384, (12, items as u32 - 1)));
+        }
     }
 
     /// The bytes, the first line and how many lines there are, for each of the edges.
     #[test]
     fn edges_of_the_program() {
         let files = files(3, 0);
-        assert_eq!(files.len(), 14);
+        assert_eq!(files.iter().filter(|(name, _)| name.starts_with("edge-")).count(), 14);
         let last_place = |name: &str| judged(find(&files, name)).1.to_string() + " 11 0000";
         let (cut, wrong) = ("edge-09-last-item-cut-16384", "edge-10-last-kind-wrong-16384");
         let (cut, wrong) = (format!("{cut}.script"), format!("{wrong}.script"));

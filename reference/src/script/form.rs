@@ -1,10 +1,6 @@
 //! Whether a script is well formed, and where it is not (definition, The form).
 
 use super::{read_item, Item, ITEMS_FROM, VERSION};
-use crate::answer::{Answer, BAD_SCRIPT, DONE};
-
-/// The number that a script answers, and a place among its items.
-pub type Report = (Answer, u32);
 
 /// The items of a well formed script; else the place of the first faulty one, or 0 if the version
 /// is wrong or missing. What follows a faulty item is not looked at.
@@ -22,17 +18,11 @@ pub fn items(script: &[u8]) -> Result<Vec<Item>, u32> {
     Ok(items)
 }
 
-/// A script is judged: how many items it has, or where it is faulty.
-pub fn judged(script: &[u8]) -> Report {
-    match items(script) {
-        Ok(items) => (DONE, items.len() as u32),
-        Err(place) => (BAD_SCRIPT, place),
-    }
-}
-
 #[cfg(test)]
 mod tests {
     use super::*;
+    use crate::answer::DONE;
+    use crate::script::tests::judged_clear as judged;
     use crate::script::{script_of, write_item};
     use crate::streams::script::items::any_item;
     use crate::streams::{Kind, Maker};
@@ -146,7 +136,7 @@ mod tests {
                 script.extend([0, length as u8, kind]);
                 script.extend((1..length).map(|_| maker.byte()));
             }
-            assert_eq!(judged(&script), (0, many));
+            assert_eq!(items(&script).map(|items| items.len()), Ok(many as usize));
             assert_eq!(items(&script).map(|items| script_of(&items)), Ok(script));
         }
     }

@@ -3,6 +3,7 @@
 
 pub mod files;
 pub mod form;
+pub mod judge;
 pub mod program;
 pub mod run;
 
@@ -105,7 +106,17 @@ pub fn script_of(items: &[Item]) -> Vec<u8> {
 
 #[cfg(test)]
 pub mod tests {
+    use super::judge::{judged, Report};
     use super::*;
+
+    /// A control write for register 24, and a first half.
+    pub const MISSING: Item = Item::ControlWrite(0x9800);
+    pub const FIRST: Item = Item::ControlWrite(0x4000);
+
+    /// A script is judged as the program does it, with pending clear.
+    pub fn judged_clear(script: &[u8]) -> Report {
+        judged(script, false)
+    }
 
     /// Control writes of these words, then these items.
     pub fn with_words(words: &[u16], items: &[Item]) -> Vec<Item> {

@@ -1,6 +1,6 @@
 //! What the program `script` prints (definition, The program `script`).
 
-use super::form::{self, Report};
+use super::judge::{self, Report};
 use super::{run, ITEMS_FROM};
 use crate::answer::{numbers, Answer, BAD_BUFFER, DONE};
 use crate::replay::Machine;
@@ -24,24 +24,24 @@ pub fn start() -> Machine {
 
 /// A script that is refused before any call has one line.
 pub fn told(script: &[u8]) -> Told {
-    match admitted(script) {
-        (DONE, _) => called(script),
+    let machine = start();
+    match admitted(script, machine.state.pending) {
+        (DONE, _) => called(machine, script),
         (number, place) => Told { lines: vec![line(place, number, 0)], done: false },
     }
 }
 
-/// Too many bytes are refused whatever they are; only then is the form looked at.
-fn admitted(script: &[u8]) -> Report {
+/// Too many bytes are refused whatever they are; only then is the script judged.
+fn admitted(script: &[u8], pending: bool) -> Report {
     if script.len() > MOST_BYTES {
         (BAD_BUFFER, 0)
     } else {
-        form::judged(script)
+        judge::judged(script, pending)
     }
 }
 
-/// A well formed script, item by item, up to its end or to a refused call.
-fn called(script: &[u8]) -> Told {
-    let mut machine = start();
+/// A script that is judged with 0, item by item, up to its end or to a refused call.
+fn called(mut machine: Machine, script: &[u8]) -> Told {
     let mut told = Told { lines: Vec::new(), done: true };
     let mut at = ITEMS_FROM;
     while told.done && at < script.len() {
@@ -85,6 +85,23 @@ mod tests {
         assert_told(&[2, 0, 1, 4], &["0 11 0000"], false);
         assert_told(&[1, 0, 1, 4, 0, 1, 7, 0, 1], &["2 11 0000"], false);
         assert_told(&[1], &[], true);
+    }
+
+    /// A fresh state awaits no second half. Too many bytes and a faulty item come first.
+    #[test]
+    fn missing_registers() {
+        assert_told(&script(&[0x9800], &[]), &["0 12 0000"], false);
+        assert_told(&script(&[0x8F02, 0xBFFF], &[Item::StatusRead]), &["1 12 0000"], false);
+        assert_told(&script(&[0x4000, 0x9800], &[]), &["0 0 0000", "1 0 0000"], true);
+        assert_told(&script(&[0x4000, 0x9800, 0x9800], &[]), &["2 12 0000"], false);
+        let cleared = [Item::StatusRead, Item::ControlWrite(0x9F00)];
+        assert_told(&script(&[0x4000], &cleared), &["2 12 0000"], false);
+        let faulty = [script(&[0x9800], &[]), vec![0, 1, 8]].concat();
+        assert_told(&faulty, &["1 11 0000"], false);
+        let most = script(&[0x8F02, 0x8F02, 0x9800], &[Item::NewFrame; 5_456]);
+        assert_eq!(most.len(), 16_384);
+        assert_told(&most, &["2 12 0000"], false);
+        assert_told(&[most, vec![0]].concat(), &["0 2 0000"], false);
     }
 
     /// 16,384 bytes are a version and 5,461 items of three bytes.

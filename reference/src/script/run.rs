@@ -1,6 +1,6 @@
 //! Running a script: its plain calls, one after the other (definition, Running).
 
-use super::form::{self, Report};
+use super::judge::{self, Report};
 use super::{read_item, Item};
 use crate::answer::{Reply, BAD_SCRIPT, DONE};
 use crate::calls;
@@ -31,12 +31,13 @@ impl Lent<'_> {
     }
 }
 
-/// The script is judged as a whole before its first call. Nothing is asked of the state and the
-/// buffers but by the calls, and what those before a refused one did stands.
+/// The script is judged as a whole before its first call, with the pending flag of the state. Nothing
+/// else is asked of the state and the buffers but by the calls, and what those before a refused one
+/// did stands.
 pub fn script(lent: &mut Lent, script: &[u8]) -> Report {
-    let items = match form::items(script) {
+    let items = match judge::items(script, lent.state.pending) {
         Ok(items) => items,
-        Err(place) => return (BAD_SCRIPT, place),
+        Err(report) => return report,
     };
     for (place, item) in (0..).zip(&items) {
         if let Err(number) = lent.call(*item) {
@@ -47,7 +48,8 @@ pub fn script(lent: &mut Lent, script: &[u8]) -> Report {
 }
 
 /// The item that begins at a byte is called, and the byte to go on from is given with its answer. A
-/// refused call gives the same byte again. Neither the version nor other items are looked at.
+/// refused call gives the same byte again. Neither the version nor other items are looked at, and a
+/// write to a missing register is taken, as by the port.
 pub fn item(lent: &mut Lent, script: &[u8], at: usize) -> (Reply, usize) {
     let Some((item, next)) = read_item(script, at) else {
         return (Err(BAD_SCRIPT), at);
@@ -57,7 +59,7 @@ pub fn item(lent: &mut Lent, script: &[u8], at: usize) -> (Reply, usize) {
 }
 
 #[cfg(test)]
-mod tests {
+pub mod tests {
     use super::*;
     use crate::replay::Machine;
     use crate::script::script_of;
@@ -65,7 +67,7 @@ mod tests {
     use crate::state::{State, FILL};
 
     /// What a script of these items reports, and the machine after it.
-    fn run_on(machine: &Machine, items: &[Item]) -> (Report, Machine) {
+    pub fn run_on(machine: &Machine, items: &[Item]) -> (Report, Machine) {
         let mut machine = machine.clone();
         let report = script(&mut machine.lent().0, &script_of(items));
         (report, machine)

@@ -338,6 +338,16 @@ impl Maker {
         self.status();
     }
 
+    /// The number of a register that there is not.
+    pub fn missing_register(&mut self) -> u16 {
+        24 + self.word() % 8
+    }
+
+    /// A word that is a first half, unless another half is awaited.
+    pub fn first_half(&mut self) -> u16 {
+        self.pick(&[0x0000, 0x4000, 0xC000]) | self.word() & 0x3FFF
+    }
+
     /// Sets code and address by two control words; the unused bits vary.
     /// A first half cannot give CD1-CD0 = 10, that is a register write: 01 is taken instead.
     pub fn point(&mut self, code: u8, address: u16) {

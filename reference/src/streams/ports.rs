@@ -76,7 +76,7 @@ fn noise(maker: &mut Maker) {
 
 /// A first half, then something else than its second half.
 fn half(maker: &mut Maker) {
-    let first = maker.pick(&[0x0000, 0x4000, 0xC000]) | maker.word() & 0x3FFF;
+    let first = maker.first_half();
     maker.settle();
     maker.control(first);
     match maker.below(5) {
@@ -123,7 +123,7 @@ fn while_waiting(maker: &mut Maker) {
             }
             4 => maker.control(0x4000),
             5 => {
-                let number = 24 + maker.word() % 8;
+                let number = maker.missing_register();
                 maker.register(number, 0x55);
             }
             6 => maker.begins(),
@@ -183,7 +183,7 @@ fn turn(maker: &mut Maker) {
 fn absent_register(maker: &mut Maker) {
     let address = maker.address();
     maker.point(1, address);
-    let number = 24 + maker.word() % 8;
+    let number = maker.missing_register();
     let value = maker.byte();
     maker.register(number, value);
     maker.access();

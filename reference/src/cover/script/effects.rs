@@ -1,8 +1,10 @@
 //! Counts of what the calls of a script do once they are done.
 
+use super::missing::{bit_13, MISSING};
 use crate::cover::{names, Tally};
+use crate::ports::Taken;
 use crate::script::Item;
-use crate::state::{State, COPY, FILL, FILL_WAITING, REGISTERS, SCROLLS, TRANSFER, UNITS_MOST};
+use crate::state::{State, COPY, FILL, FILL_WAITING, SCROLLS, TRANSFER, UNITS_MOST};
 
 const RULES: &[&str] = &[
     "script: register written",
@@ -49,7 +51,19 @@ const RULES: &[&str] = &[
 ];
 
 pub fn rules() -> Vec<String> {
-    names(RULES)
+    let mut rules = names(RULES);
+    rules.extend([0x9700, 0xB700].map(last_register));
+    rules.extend(MISSING.map(bits_of));
+    rules
+}
+
+/// The last register that there is, by its word.
+fn last_register(word: u16) -> String {
+    format!("script: register 23 written, {}", bit_13(word))
+}
+
+fn bits_of(number: u16) -> String {
+    format!("script: second half with the bits of register {number}")
 }
 
 /// What the calls so far have done.
@@ -120,19 +134,28 @@ fn flag(state: &State) -> bool {
     state.overflow || state.collision
 }
 
-fn control(tally: &mut Tally, place: usize, [then, now]: Around, word: u16) {
-    if then.pending {
-        tally.meet("script: second half");
-        tally.meet_if(place == 0, "script: second half at place 0");
-        let begins = now.code & 0x20 != 0 && then.registers[1] & 0x10 != 0;
-        tally.meet_if(begins && now.kind == TRANSFER, "script: transfer begins");
-        tally.meet_if(begins && now.kind == FILL_WAITING, "script: fill waits");
-        tally.meet_if(begins && now.kind == COPY, "script: copy begins");
-    } else if word >> 14 == 0b10 {
-        let there = usize::from(word / 256 % 32) < REGISTERS;
-        tally.meet_if(there, "script: register written");
-    } else {
-        tally.meet("script: first half");
+fn control(tally: &mut Tally, place: usize, around: Around, word: u16) {
+    match Taken::of(word, around[0].pending) {
+        Taken::SecondHalf => second_half(tally, place, around, word),
+        Taken::FirstHalf => tally.meet("script: first half"),
+        Taken::RegisterWrite(number) => {
+            tally.meet("script: register written");
+            tally.meet_if(number == 23, &last_register(word));
+        }
+        // No script with one is called.
+        Taken::MissingRegister => (),
+    }
+}
+
+fn second_half(tally: &mut Tally, place: usize, [then, now]: Around, word: u16) {
+    tally.meet("script: second half");
+    tally.meet_if(place == 0, "script: second half at place 0");
+    let begins = now.code & 0x20 != 0 && then.registers[1] & 0x10 != 0;
+    tally.meet_if(begins && now.kind == TRANSFER, "script: transfer begins");
+    tally.meet_if(begins && now.kind == FILL_WAITING, "script: fill waits");
+    tally.meet_if(begins && now.kind == COPY, "script: copy begins");
+    if Taken::of(word, false) == Taken::MissingRegister {
+        tally.meet(&bits_of(word / 256 % 32));
     }
 }
 
@@ -179,7 +202,7 @@ fn run(tally: &mut Tally, then: &State, budget: u32, units: u32) {
 mod tests {
     use super::*;
     use crate::bench::command;
-    use crate::cover::script::tests::{assert_met_of, run_of};
+    use crate::cover::script::tests::{assert_met_of, run_of, SET_PENDING};
     use crate::replay::Command;
     use crate::script::tests::with_words;
 
@@ -198,14 +221,25 @@ mod tests {
         let nothing = with_words(&[0x4050, 0x0010], &[Item::DataWrite(1)]);
         let stored = "data write that stores nothing";
         assert_met(&[], &nothing, &[&halves[..], &[stored]].concat());
-        let pending = command(32, 5, 0, 1);
         assert_met(
-            &[pending],
+            &[SET_PENDING],
             &with_words(&[0x0000], &[]),
             &["second half", "second half at place 0"],
         );
-        assert_met(&[pending], &[Item::StatusRead], &["status read with pending set"]);
-        assert_met(&[], &with_words(&[0x8F02, 0x9800], &[]), &["register written"]);
+        assert_met(&[SET_PENDING], &[Item::StatusRead], &["status read with pending set"]);
+        assert_met(&[], &with_words(&[0x8F02], &[]), &["register written"]);
+    }
+
+    /// What is turned down has no effects.
+    #[test]
+    fn the_last_register_and_missing_ones() {
+        let last = ["register written", "register 23 written, bit 13 set"];
+        assert_met(&[], &with_words(&[0xB700], &[]), &last);
+        assert_met(&[], &with_words(&[0x9600], &[]), &last[..1]);
+        let half = ["first half", "second half", "second half with the bits of register 25"];
+        assert_met(&[], &with_words(&[0x4000, 0xB900], &[]), &half);
+        assert_met(&[], &with_words(&[0x4000, 0x1900], &[]), &half[..2]);
+        assert_met(&[], &with_words(&[0x8F02, 0x9800], &[]), &[]);
     }
 
     /// A word of VRAM, of the colours or of the scroll words counts if it is not 0.

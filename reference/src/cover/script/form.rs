@@ -4,7 +4,7 @@
 use super::place_name;
 use crate::calls::vram_good;
 use crate::cover::{names, Before, Tally};
-use crate::script::{content_size, form, read_item, ITEMS_FROM, VERSION};
+use crate::script::{content_size, form, read_item, Item, ITEMS_FROM, VERSION};
 
 const RULES: &[&str] = &[
     "script: empty",
@@ -90,7 +90,8 @@ pub fn count(tally: &mut Tally, before: &Before) {
             tally.meet_if(bad_state, "script: empty, with a bad state");
         }
         [VERSION, ..] => {
-            let (place, item) = first_faulty(script);
+            let (items, at) = whole_items(script);
+            let (place, item) = (items.len(), script.get(at..).unwrap_or(&[]));
             tally.meet_if(bad_state, &with_bad_state(place));
             tally.meet_if(place >= 20, "script: faulty after 20 or more items");
             tally.meet_if(item.len() > 5, "script: faulty, with more bytes after the item");
@@ -109,14 +110,14 @@ pub fn count(tally: &mut Tally, before: &Before) {
     }
 }
 
-/// The place of the first faulty item, and all bytes from there on.
-fn first_faulty(script: &[u8]) -> (usize, &[u8]) {
-    let (mut place, mut at) = (0, ITEMS_FROM);
-    while let Some((_, next)) = read_item(script, at) {
-        place += 1;
+/// The items before the first faulty one, and the byte that it begins at.
+pub fn whole_items(script: &[u8]) -> (Vec<Item>, usize) {
+    let (mut items, mut at) = (Vec::new(), ITEMS_FROM);
+    while let Some((item, next)) = read_item(script, at) {
+        items.push(item);
         at = next;
     }
-    (place, script.get(at..).unwrap_or(&[]))
+    (items, at)
 }
 
 /// What is wrong with an item, where one thing is.

@@ -4,12 +4,15 @@
 mod effects;
 mod form;
 pub mod items;
+mod missing;
+mod turned_down;
 
 use super::refused::{count_over, free};
 use super::runs::kind_name;
 use super::{names, Before, Tally};
 use crate::answer::{
-    Answer, BAD_BUFFER, BAD_STATE, BUSY, DONE, NOT_MODELLED, NO_SUCH_PLACE, SOURCE_NOT_LENT,
+    Answer, BAD_BUFFER, BAD_STATE, BUSY, DONE, MISSING_REGISTER, NOT_MODELLED, NO_SUCH_PLACE,
+    SOURCE_NOT_LENT,
 };
 use crate::calls::{vram_good, WORK_RAM_BYTES};
 use crate::replay::Machine;
@@ -51,7 +54,8 @@ const CALLS: [(&str, &[Answer]); 7] = [
     ("new frame", &[BAD_STATE]),
 ];
 
-/// Where a refused call stands. A good state stays good, so 1 comes at place 0 alone.
+/// Where a refused call or a missing register stands. A good state stays good, so 1 comes at place 0
+/// alone.
 const WHERE: [&str; 4] = [
     "in a script of one item",
     "at the first of more items",
@@ -60,7 +64,9 @@ const WHERE: [&str; 4] = [
 ];
 
 pub fn rules() -> Vec<String> {
-    [of_calls(), effects::rules(), form::rules(), items::rules()].concat()
+    let of_calls = [of_calls(), effects::rules()];
+    let of_judging = [form::rules(), missing::rules(), turned_down::rules()];
+    [of_calls.concat(), of_judging.concat(), items::rules()].concat()
 }
 
 fn of_calls() -> Vec<String> {
@@ -109,13 +115,22 @@ fn call_name(item: Item) -> &'static str {
     CALLS[usize::from(item.kind()) - 1].0
 }
 
-/// Walks through a well formed script, call by call, on a copy of the machine.
+/// A script is judged, and if that is done its calls are made.
 pub fn count(tally: &mut Tally, before: &Before, after: &Machine, number: Answer) {
     let Ok(items) = items_of(before.machine.script.lent()) else {
         form::count(tally, before);
+        missing::count_faulty(tally, before);
         return;
     };
-    as_a_whole(tally, before, items.len(), number);
+    missing::count(tally, before, &items);
+    if number != MISSING_REGISTER {
+        as_a_whole(tally, before, items.len(), number);
+        calls(tally, before, after, &items);
+    }
+}
+
+/// Walks through the calls on a copy of the machine.
+fn calls(tally: &mut Tally, before: &Before, after: &Machine, items: &[Item]) {
     let mut machine = before.machine.clone();
     let mut effects = Effects::default();
     let mut begun = false;
@@ -177,15 +192,18 @@ fn refused(
     number: Answer,
 ) {
     tally.meet(&refused_at(call_name(item), number, place));
-    let position = match place {
+    tally.meet(&number_where(number, position(place, items)));
+    if number == BAD_BUFFER {
+        bad_buffer(tally, machine, item);
+    }
+}
+
+fn position(place: usize, items: usize) -> &'static str {
+    match place {
         0 if items == 1 => WHERE[0],
         0 => WHERE[1],
         _ if place + 1 < items => WHERE[2],
         _ => WHERE[3],
-    };
-    tally.meet(&number_where(number, position));
-    if number == BAD_BUFFER {
-        bad_buffer(tally, machine, item);
     }
 }
 
@@ -201,14 +219,21 @@ fn bad_buffer(tally: &mut Tally, machine: &Machine, item: Item) {
 }
 
 fn stands(tally: &mut Tally, before: &Before, after: &Machine) {
-    let then = &before.machine;
-    let mut stands = |changed: bool, what: &str| {
-        let rule = format!("script: refused, and what the calls before did to {what} stands");
-        tally.meet_if(changed, &rule);
-    };
-    stands(then.state != after.state, "the state");
-    stands(then.vram.bytes != after.vram.bytes, "VRAM");
-    stands(then.pixels.bytes != after.pixels.bytes, "the pixels");
+    for what in changed(&before.machine, after) {
+        tally.meet(&format!("script: refused, and what the calls before did to {what} stands"));
+    }
+}
+
+/// What calls can change.
+const CHANGED: [&str; 3] = ["the state", "VRAM", "the pixels"];
+
+fn changed(then: &Machine, now: &Machine) -> Vec<&'static str> {
+    let differ = [
+        then.state != now.state,
+        then.vram.bytes != now.vram.bytes,
+        then.pixels.bytes != now.pixels.bytes,
+    ];
+    CHANGED.into_iter().zip(differ).filter(|(_, differs)| *differs).map(|(what, _)| what).collect()
 }
 
 #[cfg(test)]
@@ -221,6 +246,10 @@ pub mod tests {
     use crate::script::tests::with_words;
 
     pub const SPOIL_STATE: Command = Command { op: 32, a: 4, b: 0, c: 64 };
+    pub const SET_PENDING: Command = Command { op: 32, a: 5, b: 0, c: 1 };
+    /// A copy of one byte is under way.
+    pub const IN_A_COPY: [Command; 2] =
+        [Command { op: 32, a: 6, b: 0, c: 4 }, Command { op: 32, a: 7, b: 0, c: 1 }];
 
     /// Of the rules, these are met, in any order; their first word is left out.
     pub fn assert_met_of(rules: Vec<String>, commands: &[Command], expected: &[&str]) {

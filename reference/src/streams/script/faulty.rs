@@ -44,7 +44,7 @@ fn items_or_any(maker: &mut Maker) -> Vec<Item> {
 }
 
 /// A wrong kind or length of the item at a byte, or a wrong version; then it is as it was.
-fn fault(maker: &mut Maker, at: u32, has_content: bool) {
+pub fn fault(maker: &mut Maker, at: u32, has_content: bool) {
     let (byte, wrong) = match maker.below(6) {
         0 | 1 => (at + 2, vec![maker.pick(&KINDS)]),
         2..=4 if has_content => (at, maker.pick(&WITH_CONTENT).to_vec()),

@@ -120,7 +120,7 @@ fn longest(maker: &mut Maker) {
 
 /// Half a command, the first or the second, with what is left awaited from before.
 fn half(maker: &mut Maker) {
-    let word = maker.pick(&[0x0000, 0x4000, 0xC000]) | maker.word() & 0x3F13;
+    let word = maker.first_half() & 0xFF13;
     maker.control(word);
 }
 

@@ -1,8 +1,10 @@
-//! Streams of scripts: well formed ones, ones with a call that is refused, faulty ones, and items
-//! written where there is room for them and where there is none.
+//! Streams of scripts: well formed ones, ones with a call that is refused, faulty ones, ones with a
+//! word for a missing register, and items written where there is room for them and where there is
+//! none.
 
 mod faulty;
 pub mod items;
+pub mod missing;
 mod rooms;
 pub mod stopped;
 
@@ -30,14 +32,15 @@ pub fn fill(maker: &mut Maker) {
 
 /// One script or a few that go together.
 pub fn episode(maker: &mut Maker) {
-    match maker.below(42) {
+    match maker.below(50) {
         0..=8 => whole(maker),
         9..=20 => stopped::episode(maker),
         21..=30 => faulty::episode(maker),
         31..=35 => rooms::episode(maker),
         36..=38 => no_items(maker),
         39 => halves(maker),
-        _ => beside_the_tape(maker),
+        40 | 41 => beside_the_tape(maker),
+        _ => missing::episode(maker),
     }
 }
 

@@ -97,6 +97,12 @@ pub fn spoil_state(maker: &mut Maker) -> (u8, u32) {
     (field, old)
 }
 
+/// Lends one of the buffers at a wrong length.
+pub fn lend_one_wrongly(maker: &mut Maker) {
+    let why = maker.pick(&[Why::Vram, Why::Pixels, Why::WorkRam, Why::Cartridge]);
+    lend_wrongly(maker, why);
+}
+
 fn lend_wrongly(maker: &mut Maker, why: Why) {
     let (buffer, lengths): (u16, &[u32]) = match why {
         Why::Vram => (VRAM, &[65_535, 65_537, 0]),

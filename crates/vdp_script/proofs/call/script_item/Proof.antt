@@ -1,5 +1,6 @@
 -- By what begins at the byte, and then by whether its call is done.
 use borrow.Author.Needs.{needs}
+use native.Mathlib.Omega.{arith}
 use mathlib.Core.Path.{_≡_, sym, _∙_}
 use Rattle.vdp_state.specs.State.{chip}
 use Rattle.vdp_script.specs.declared.item.Found.{Found}
@@ -27,14 +28,15 @@ returns-2 : tie.Need-returns-2
 returns-2 c =
     let w = c .before .before .before .before .before .before .before .before in
     let f = w .before .before .before .before in
-    done (w .call-item .result) _ _ _ (f .before .before .before .before .before .before .before .before .args .at) _ (w .call-item .ensures) (c .byte-after .result) (c .byte-after .ensures) (c .before .if1 .taken)
+    done (w .call-item .result) _ _ _ (f .before .before .before .before .before .before .before .before .args .at) _ (w .call-item .ensures) (c .byte-after .result) (c .byte-after .ensures) (omega (arith, c .before .if1 .taken))
     ∙ looked (f .before .before) (f .found .given .1)
 
 returns-3 : tie.Need-returns-3
 returns-3 c =
     let w = c .before .before .before .before .before .before .before in
     let f = w .before .before .before .before in
-    stopped (w .call-item .result) _ _ _ (f .before .before .before .before .before .before .before .before .args .at) _ (w .call-item .ensures) (c .if1 .left) ∙ looked (f .before .before) (f .found .given .1)
+    stopped (w .call-item .result) _ _ _ (f .before .before .before .before .before .before .before .before .args .at) _ (w .call-item .ensures) (λ z. let bad : ⊥ = omega (arith, c .if1 .left, z) in bad)
+    ∙ looked (f .before .before) (f .found .given .1)
 
 pub script-item-spec : {M : Type 1} → statement M
 script-item-spec =

@@ -5,13 +5,13 @@ use native.Mathlib.Omega.{arith}
 use lib.ListN.{length, drop}
 use mathlib.Core.Bool.{true, false}
 use mathlib.Core.Path.{_≡_, sym, ap, _∙_}
-use Rattle.vdp_script.specs.Form.{itemsFrom, judgedAs}
+use Rattle.vdp_script.specs.Form.{itemsFrom, formJudged}
 use Rattle.vdp_script.proofs.Forms.{judgedAfter, judged-start, judged-at, judged-further, at-faulty, some-left, none-left}
 use Rattle.vdp_script.proofs.form.judge_items.Statement.{statement}
 use Rattle.vdp_script.proofs.form.judge_items.Tie as tie
 
 abbrev Inv-loop : tie.InvT-loop
-Inv-loop script at₀ place₀ at place = (place ≤ at) × (judgedAfter place (itemsFrom 0 (drop at script)) ≡ judgedAs (itemsFrom 0 (drop 1 script)))
+Inv-loop script at₀ place₀ at place = (place ≤ at) × (judgedAfter place (itemsFrom 0 (drop at script)) ≡ formJudged (itemsFrom 0 (drop 1 script)))
 
 abbrev μ-loop : tie.MeasureT-loop
 μ-loop script at₀ place₀ at place = length script - at

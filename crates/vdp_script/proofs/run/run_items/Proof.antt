@@ -6,7 +6,8 @@ use lib.ListN.{length}
 use mathlib.Core.Path.{_≡_, refl, sym, _∙_}
 use Rattle.vdp_state.specs.State.{chip}
 use Rattle.vdp_script.specs.Run.{runItems}
-use Rattle.vdp_script.proofs.Runs.{itemsAt, WellFormedAt, ended, turn-refused, turn-done, turn-further}
+use Rattle.vdp_script.proofs.Forms.{itemsAt}
+use Rattle.vdp_script.proofs.Runs.{WellFormedAt, ended, turn-refused, turn-done, turn-further}
 use Rattle.vdp_script.proofs.run.run_items.Statement.{statement}
 use Rattle.vdp_script.proofs.run.run_items.Tie as tie
 
@@ -33,7 +34,7 @@ returns c =
     let w = c .before .before .before .before .before .before .before in
     let l = turn w .before .loop in
     let a = begun (turn w) .args in
-    sym (turn-refused (a .script .now) (a .cartridge .now) (a .ram .now) (l .place) (chip (l .state) (l .vram)) (l .pixels) (l .at) (w .script-item .result) _ _ (w .script-item .ensures) (turn w .loop-test .taken) (l .inv .3) (c .if1 .taken))
+    sym (turn-refused (a .script .now) (a .cartridge .now) (a .ram .now) (l .place) (chip (l .state) (l .vram)) (l .pixels) (l .at) (w .script-item .result) _ _ (w .script-item .ensures) (turn w .loop-test .taken) (l .inv .3) (λ z. let bad : ⊥ = omega (arith, c .if1 .taken, z) in bad))
     ∙ l .inv .4
 
 add-place : tie.Need-add-place Inv-loop μ-loop
@@ -51,7 +52,7 @@ onward c =
     let w = c .before .before .before .before .before .before .before in
     let l = turn w .before .loop in
     let a = begun (turn w) .args in
-    turn-further (a .script .now) (a .cartridge .now) (a .ram .now) (l .place) (chip (l .state) (l .vram)) (l .pixels) (l .at) (w .script-item .result) _ _ (w .script-item .ensures) (turn w .loop-test .taken) (l .inv .3) (c .if1 .left)
+    turn-further (a .script .now) (a .cartridge .now) (a .ram .now) (l .place) (chip (l .state) (l .vram)) (l .pixels) (l .at) (w .script-item .result) _ _ (w .script-item .ensures) (turn w .loop-test .taken) (l .inv .3) (omega (arith, c .if1 .left))
 
 loop-less : tie.Need-loop-less Inv-loop μ-loop
 loop-less c = omega (arith, onward c .0, onward c .1)
@@ -65,7 +66,7 @@ loop-again c =
       search needs,
       search needs,
       onward c .2,
-      sym (turn-done (a .script .now) (a .cartridge .now) (a .ram .now) (l .place) (chip (l .state) (l .vram)) (l .pixels) (l .at) (w .script-item .result) _ _ (w .script-item .ensures) (turn w .loop-test .taken) (l .inv .3) (c .if1 .left))
+      sym (turn-done (a .script .now) (a .cartridge .now) (a .ram .now) (l .place) (chip (l .state) (l .vram)) (l .pixels) (l .at) (w .script-item .result) _ _ (w .script-item .ensures) (turn w .loop-test .taken) (l .inv .3) (omega (arith, c .if1 .left)))
           ∙ l .inv .4,
     )
 
