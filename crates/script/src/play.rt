@@ -20,7 +20,8 @@ fn print_line(place: usize, number: u8, result: u32) {
     io::write_all(STDOUT_FILENO, &text[..n]);
 }
 
-// Makes the calls of a script that was admitted from a fresh state, without a cartridge, up to the first that is refused.
+// Makes the calls of a script that was admitted, from a fresh state and without a cartridge, up to the first that is
+// refused.
 fn play_items(script: &[u8], vram: &mut [u8], ram: &[u8], pixels: &mut [u8]) {
     let mut state = fresh(false);
     let mut at = 1;
