@@ -20,6 +20,6 @@ pendingLeft SecondHalf = false
 abbrev pub registerOf : ℕ → ℕ
 registerOf w = w / 256 % 32
 
--- "The chip has registers 0 to 23; 24 to 31 are missing."
+-- "A write to registers 24 to 31 changes nothing."; in Scripts: "24 to 31 are missing"
 abbrev pub hasRegister : ℕ → Bool
 hasRegister i = ltb i 24

@@ -45,13 +45,6 @@ bad = ported 64 false
 abbrev pub busy : State
 busy = withControl start (withDma (start .control) (record { kind = 2; remaining = 1; source = 0; fill = 0 }))
 
--- a script run with VRAM, work RAM and pixels that are 0 and no cartridge, as the program does it
-abbrev pub zeros : ℕ → List ℕ
-zeros n = replicate n 0
-
-abbrev pub run : State → List ℕ → ScriptOutcome
-run s script = runScript script [] (zeros 65536) (chip s (zeros 65536)) (zeros 320)
-
 -- a script of these items, judged with pending clear and set
 abbrev pub eitherWay : List Item → List ℕ
 eitherWay items = numberAndPlace (judged false (scriptOf items)) ++ numberAndPlace (judged true (scriptOf items))
@@ -66,6 +59,13 @@ between i = eitherWay (ControlWord 0x4000 ∷ i ∷ ControlWord 0x9800 ∷ [])
 -- 8F02h, a line that fresh registers refuse, and 9800h
 abbrev pub third : List ℕ
 third = scriptOf (ControlWord 0x8f02 ∷ Line 0 ∷ ControlWord 0x9800 ∷ [])
+
+-- a script run with VRAM, work RAM and pixels that are 0 and no cartridge, as the program does it
+abbrev pub zeros : ℕ → List ℕ
+zeros n = replicate n 0
+
+abbrev pub run : State → List ℕ → ScriptOutcome
+run s script = runScript script [] (zeros 65536) (chip s (zeros 65536)) (zeros 320)
 
 -- its number and place, and register 15 then
 abbrev pub ran : State → List ℕ → List ℕ
