@@ -1,20 +1,8 @@
 /* Tests of scripts. Random items are kept in a list beside the script that is written of them; what must come is told
  * from that list, by plain calls and by counting bytes, and never by reading the script. */
-#include "testing.h"
+#include "items.h"
 
-enum { ITEMS = 40, SCRIPT_SIZE = KUTHBAREEN_FIRST_ITEM + ITEMS * KUTHBAREEN_MOST_ITEM_SIZE, KINDS = 7 };
-
-typedef struct {
-    uint8_t kind;
-    uint16_t content;
-} item;
-
-/* All that a script's calls are lent and may change. */
-typedef struct {
-    kuthbareen_state chip;
-    uint8_t vram[KUTHBAREEN_VRAM_SIZE];
-    uint8_t pixels[KUTHBAREEN_LINE_SIZE];
-} board;
+enum { ITEMS = 40, SCRIPT_SIZE = KUTHBAREEN_FIRST_ITEM + ITEMS * KUTHBAREEN_MOST_ITEM_SIZE };
 
 _Static_assert(sizeof(kuthbareen_script_answer) == 16, "script answer");
 _Static_assert(offsetof(kuthbareen_script_answer, place) == 8, "place");
@@ -26,20 +14,7 @@ _Static_assert(offsetof(kuthbareen_item_written, next) == 8, "next");
 
 static board ours, theirs, spare;
 static item list[ITEMS];
-static uint8_t script[SCRIPT_SIZE], ram[KUTHBAREEN_RAM_SIZE], cartridge[4096];
-
-static uint32_t seed = 1;
-
-static unsigned below(unsigned n)
-{
-    seed = seed * 1664525 + 1013904223;
-    return (seed >> 16) % n;
-}
-
-static size_t size_of(item i)
-{
-    return i.kind == 3 || i.kind == 4 || i.kind == 7 ? 3 : 5;
-}
+static uint8_t script[SCRIPT_SIZE];
 
 /* Where an item of the list begins in the script; for their number, where the script ends. */
 static size_t byte_of(unsigned place)
@@ -51,74 +26,10 @@ static size_t byte_of(unsigned place)
     return at;
 }
 
-/* Control words of use: registers 1, 12, 15, 19 and 23, commands to write and read, with DMA or without. */
-static uint16_t control_word(void)
-{
-    static const uint16_t words[] = {0x8114, 0x8154, 0x8174, 0x8C81, 0x8F02, 0x8F01, 0x9305, 0x9400, 0x9780, 0x97C0,
-                                     0x9700, 0x4000, 0x0000, 0xC000, 0x0080, 0x00C0, 0x0090, 0x0010, 0x5F00, 0x8104};
-    return words[below(sizeof words / sizeof words[0])];
-}
-
-/* One control word in thirty has the bits of a write to one of registers 24 to 31. */
-static item some_item(void)
-{
-    item i = {(uint8_t)(1 + below(KINDS)), 0};
-    if (i.kind == KUTHBAREEN_ITEM_CONTROL_WORD || below(3) == 0) {
-        i.kind = KUTHBAREEN_ITEM_CONTROL_WORD;
-        i.content = below(30) == 0 ? (uint16_t)(0x9800 | below(0x4000)) : control_word();
-    } else if (i.kind == KUTHBAREEN_ITEM_LINE) {
-        i.content = (uint16_t)below(230);
-    } else {
-        i.content = (uint16_t)below(65536);
-    }
-    return i;
-}
-
-static void begin(board *b, bool pending)
-{
-    unsigned i;
-    b->chip = kuthbareen_fresh(false);
-    b->chip.registers[1] = 0x14;
-    b->chip.control.port.pending = pending;
-    for (i = 0; i < sizeof b->vram; i++)
-        b->vram[i] = (uint8_t)(i * 7);
-    memset(b->pixels, 0xEE, sizeof b->pixels);
-}
-
-/* The plain call of an item. */
-static kuthbareen_answer plain(board *b, item i)
-{
-    switch (i.kind) {
-    case KUTHBAREEN_ITEM_CONTROL_WORD: return kuthbareen_control_write(&b->chip, i.content);
-    case KUTHBAREEN_ITEM_DATA_WORD: return kuthbareen_data_write(&b->chip, b->vram, sizeof b->vram, i.content);
-    case KUTHBAREEN_ITEM_DATA_READ: return kuthbareen_data_read(&b->chip, b->vram, sizeof b->vram);
-    case KUTHBAREEN_ITEM_STATUS_READ: return kuthbareen_status_read(&b->chip);
-    case KUTHBAREEN_ITEM_RUN:
-        return kuthbareen_run(&b->chip, b->vram, sizeof b->vram, cartridge, sizeof cartridge, ram, sizeof ram,
-                              i.content);
-    case KUTHBAREEN_ITEM_LINE:
-        return kuthbareen_line(&b->chip, b->vram, sizeof b->vram, i.content, b->pixels, sizeof b->pixels);
-    default: return kuthbareen_new_frame(&b->chip);
-    }
-}
-
-static kuthbareen_script_answer run(board *b, size_t size)
-{
-    return kuthbareen_run_script(&b->chip, b->vram, sizeof b->vram, cartridge, sizeof cartridge, ram, sizeof ram,
-                                 b->pixels, sizeof b->pixels, script, size);
-}
-
 static kuthbareen_item_answer step(board *b, size_t size, size_t at)
 {
-    return kuthbareen_script_item(&b->chip, b->vram, sizeof b->vram, cartridge, sizeof cartridge, ram, sizeof ram,
-                                  b->pixels, sizeof b->pixels, script, size, at);
-}
-
-static void same_boards(const char *what)
-{
-    expect(what, (unsigned long)same_state(&ours.chip, &theirs.chip), 1);
-    expect(what, (unsigned long)memcmp(ours.vram, theirs.vram, sizeof ours.vram), 0);
-    expect(what, (unsigned long)memcmp(ours.pixels, theirs.pixels, sizeof ours.pixels), 0);
+    return kuthbareen_script_item(&b->chip, b->lent.vram, lengths.vram, cartridge, lengths.cartridge, ram, lengths.ram,
+                                  b->lent.pixels, lengths.pixels, script, size, at);
 }
 
 /* Writes so many random items, keeps them in the list, and gives the script's size. */
@@ -173,10 +84,10 @@ static void refused(const char *what, bool pending, size_t size, unsigned number
     expect(what, answer.place, place);
     begin(&ours, pending);
     begin(&theirs, pending);
-    answer = run(&ours, size);
+    answer = run(&ours, script, size);
     expect(what, answer.number, number);
     expect(what, answer.place, place);
-    same_boards(what);
+    same_boards(what, &ours, &theirs);
 }
 
 /* A script is its plain calls, as a whole and item by item, up to the first that is refused. */
@@ -201,12 +112,12 @@ static unsigned as_plain_calls(bool pending, unsigned items)
         at = number == KUTHBAREEN_DONE ? byte_of(place + 1) : byte_of(place);
         expect("next byte", b.next, at);
     }
-    same_boards("item by item");
+    same_boards("item by item", &ours, &theirs);
     begin(&ours, pending);
-    kuthbareen_script_answer whole = run(&ours, size);
+    kuthbareen_script_answer whole = run(&ours, script, size);
     expect("number of a script", whole.number, number);
     expect("place", whole.place, number == KUTHBAREEN_DONE ? items : place - 1);
-    same_boards("as a whole");
+    same_boards("as a whole", &ours, &theirs);
     return number;
 }
 
@@ -309,15 +220,16 @@ static void bad_boards(void)
     size_t size = written(0);
     begin(&ours, false);
     ours.chip.control.port.code = 64;
-    expect("no items, bad state", run(&ours, size).number, KUTHBAREEN_DONE);
+    expect("no items, bad state", run(&ours, script, size).number, KUTHBAREEN_DONE);
     size = kuthbareen_write_item(script, sizeof script, size, KUTHBAREEN_ITEM_STATUS_READ, 0).next;
-    expect("bad state", run(&ours, size).number, KUTHBAREEN_BAD_STATE);
+    expect("bad state", run(&ours, script, size).number, KUTHBAREEN_BAD_STATE);
     size_t more = kuthbareen_write_item(script, sizeof script, size, KUTHBAREEN_ITEM_CONTROL_WORD, 0x9800).next;
-    expect("bad state, missing register", run(&ours, more).number, KUTHBAREEN_MISSING_REGISTER);
+    expect("bad state, missing register", run(&ours, script, more).number, KUTHBAREEN_MISSING_REGISTER);
     begin(&ours, false);
     size = kuthbareen_write_item(script, sizeof script, size, KUTHBAREEN_ITEM_LINE, 0).next;
-    kuthbareen_script_answer a = kuthbareen_run_script(&ours.chip, ours.vram, sizeof ours.vram, cartridge, 0, ram, 0,
-                                                       ours.pixels, sizeof ours.pixels - 1, script, size);
+    lengths.cartridge = lengths.ram = 0;
+    lengths.pixels--;
+    kuthbareen_script_answer a = run(&ours, script, size);
     expect("bad pixels", a.number, KUTHBAREEN_BAD_BUFFER);
     expect("place of the line", a.place, 1);
 }
@@ -325,8 +237,7 @@ static void bad_boards(void)
 int main(void)
 {
     unsigned i, ended[13] = {0};
-    for (i = 0; i < sizeof cartridge; i++)
-        cartridge[i] = (uint8_t)(i * 11 + 3);
+    fill_cartridge();
     for (i = 0; i < 3000; i++)
         ended[as_plain_calls(below(2), below(ITEMS + 1))]++;
     expect("scripts that are done come up", ended[KUTHBAREEN_DONE] > 100, 1);

@@ -27,7 +27,7 @@ extern "C" {
  * 10, 8, 5, 4, 7, 6. */
 enum {
     KUTHBAREEN_DONE = 0,             /* the call was made */
-    KUTHBAREEN_BAD_STATE = 1,        /* the state is not GOOD */
+    KUTHBAREEN_BAD_STATE = 1,        /* the state is not GOOD, or a reader is outside its ranges */
     KUTHBAREEN_BAD_BUFFER = 2,       /* a buffer has a wrong size */
     KUTHBAREEN_BUSY = 3,             /* DMA is at work */
     KUTHBAREEN_NOT_MODELLED = 4,     /* the registers ask for what is not modelled, or a line begins with PAL set */
@@ -160,6 +160,33 @@ typedef struct {
     size_t next;    /* the byte after the item, 0 where it was refused */
 } kuthbareen_item_written;
 
+/* What a reader keeps of a script that comes a few bytes at a time, from one call to the next. It comes from
+ * kuthbareen_start_reader; any other that is in no row of the definition's table answers KUTHBAREEN_BAD_STATE. */
+typedef struct {
+    uint8_t stage;  /* 0 to 6: how much has come; KUTHBAREEN_STOPPED: it takes no more bytes */
+    uint8_t kind;   /* in stages 5 and 6, that of the unfinished item, else 0 */
+    uint8_t upper;  /* in stage 6, the first byte of its content, else 0 */
+    uint8_t number; /* stopped, the number that it answers, else 0 */
+} kuthbareen_reader;
+
+/* The stage of a stopped reader. */
+enum { KUTHBAREEN_STOPPED = 7 };
+
+/* What bytes that are delivered to a reader give back. */
+typedef struct {
+    uint8_t number;           /* that of the reader that is left; where a call was refused, the call's */
+    bool called;              /* whether a call was made, done or refused */
+    uint32_t result;          /* as of the plain call, 0 where none was made */
+    size_t taken;             /* how many of the bytes were taken */
+    kuthbareen_reader reader; /* for the next call */
+} kuthbareen_delivery;
+
+/* What the end notice to a reader gives back. */
+typedef struct {
+    uint8_t number;           /* KUTHBAREEN_DONE where whole items have come; else why the reader is stopped */
+    kuthbareen_reader reader; /* stopped, if it was in its ranges */
+} kuthbareen_end_answer;
+
 /* A fresh state: all zero but for the line, which is KUTHBAREEN_LAST_LINE, and PAL, which is as asked. */
 kuthbareen_state kuthbareen_fresh(bool pal);
 
@@ -276,6 +303,22 @@ kuthbareen_script_answer kuthbareen_judge_script(bool pending, const uint8_t *sc
  * do not look at it. The version is the caller's to write, at byte 0. */
 kuthbareen_item_written kuthbareen_write_item(uint8_t *script, size_t script_size, size_t at, uint8_t kind,
                                               uint16_t content);
+
+/* "A reader that is started anew is in stage 0.": it awaits the version. */
+kuthbareen_reader kuthbareen_start_reader(void);
+
+/* Delivers bytes of a script to a reader and makes one call at most: "it ends behind the byte that makes an item whole
+ * or is faulty, and where there is none behind the last byte." Go on with the bytes that were not taken as long as some
+ * were taken and some are left. A number other than KUTHBAREEN_DONE says that the reader takes no more bytes and that
+ * state, VRAM and pixels are as this call found them; the calls before it stand. */
+kuthbareen_delivery kuthbareen_deliver(kuthbareen_state *state, uint8_t *vram, size_t vram_size,
+                                       const uint8_t *cartridge, size_t cartridge_size, const uint8_t *ram,
+                                       size_t ram_size, uint8_t *pixels, size_t pixels_size, kuthbareen_reader reader,
+                                       const uint8_t *bytes, size_t bytes_size);
+
+/* Tells a reader that no more bytes come. "The end notice stops a reader: in stage 1 with 0, in stages 0 and 2 to 6
+ * with 11." */
+kuthbareen_end_answer kuthbareen_end_notice(kuthbareen_reader reader);
 
 /* The parts of a colour word, given register 0: 256 x blue + 16 x green + red, each 0 to 7. Never refused. */
 uint32_t kuthbareen_colour_parts(uint16_t word, uint8_t register0);

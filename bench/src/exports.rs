@@ -78,6 +78,26 @@ pub struct ScriptAnswer {
     pub place: usize,
 }
 
+// What a reader keeps, and what a delivery to it gives.
+#[repr(C)]
+#[derive(Clone, Copy, Debug, PartialEq)]
+pub struct Reader {
+    pub stage: u8,
+    pub kind: u8,
+    pub upper: u8,
+    pub number: u8,
+}
+
+#[repr(C)]
+#[derive(Clone, Copy, Debug, PartialEq)]
+pub struct Delivery {
+    pub number: u8,
+    pub called: bool,
+    pub result: u32,
+    pub taken: usize,
+    pub reader: Reader,
+}
+
 pub const DONE: u8 = 0;
 pub const BAD_STATE: u8 = 1;
 pub const BAD_BUFFER: u8 = 2;
@@ -101,7 +121,7 @@ pub const MOST_UNITS: u32 = 65_536;
 pub const LAST_LINE: u16 = 261;
 
 mod c {
-    use super::{Answer, Recorded, ScriptAnswer, State};
+    use super::{Answer, Delivery, Reader, Recorded, ScriptAnswer, State};
 
     extern "C" {
         pub fn kuthbareen_fresh(pal: bool) -> State;
@@ -174,6 +194,21 @@ mod c {
             script: *const u8,
             script_size: usize,
         ) -> ScriptAnswer;
+        pub fn kuthbareen_start_reader() -> Reader;
+        pub fn kuthbareen_deliver(
+            state: *mut State,
+            vram: *mut u8,
+            vram_size: usize,
+            cartridge: *const u8,
+            cartridge_size: usize,
+            ram: *const u8,
+            ram_size: usize,
+            pixels: *mut u8,
+            pixels_size: usize,
+            reader: Reader,
+            bytes: *const u8,
+            bytes_size: usize,
+        ) -> Delivery;
     }
 }
 
@@ -321,6 +356,40 @@ pub fn run_script(
             pixels.len(),
             script.as_ptr(),
             script.len(),
+        )
+    }
+}
+
+pub fn start_reader() -> Reader {
+    // SAFETY: it takes nothing.
+    unsafe { c::kuthbareen_start_reader() }
+}
+
+// Bytes to a reader that no cartridge is lent to.
+pub fn deliver(
+    state: &mut State,
+    vram: &mut [u8],
+    ram: &[u8],
+    pixels: &mut [u8],
+    reader: Reader,
+    bytes: &[u8],
+) -> Delivery {
+    let cartridge: &[u8] = &[];
+    // SAFETY: as above.
+    unsafe {
+        c::kuthbareen_deliver(
+            state,
+            vram.as_mut_ptr(),
+            vram.len(),
+            cartridge.as_ptr(),
+            cartridge.len(),
+            ram.as_ptr(),
+            ram.len(),
+            pixels.as_mut_ptr(),
+            pixels.len(),
+            reader,
+            bytes.as_ptr(),
+            bytes.len(),
         )
     }
 }

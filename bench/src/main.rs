@@ -1,11 +1,12 @@
-// Times the library's DMA runs, data writes, lines, recorded steps, step backs and scripts beside plain Rust programs of
-// the same work and prints a table.
+// Times the library's DMA runs, data writes, lines, recorded steps, step backs, scripts and a reader beside plain Rust
+// programs of the same work and prints a table.
 // `bench [N]`: the best of N repetitions (100 if not given). Exits with 1 if the two ever differ in what they leave.
 mod exports;
 mod machine;
 mod measure;
 mod plain;
 mod plain_line;
+mod plain_reader;
 mod plain_script;
 mod plain_tape;
 mod work;

@@ -3,7 +3,7 @@ use std::hint::black_box;
 
 use crate::exports::{self, Answer, Recorded, ScriptAnswer, State, DONE, LINE_SIZE, MOST_UNITS};
 use crate::machine::{self, Machine, Memory, Screen, LINES, RECORDED_WRITES, SCRIPT_ITEMS};
-use crate::{plain, plain_line, plain_script, plain_tape};
+use crate::{plain, plain_line, plain_reader, plain_script, plain_tape};
 
 const DATA_WRITES: u32 = 1_000_000;
 
@@ -64,6 +64,13 @@ pub fn all() -> Vec<Work> {
             make_ready: machine::script,
             ours: our_script,
             plain: plain_script,
+        },
+        Work {
+            name: "the same to a reader, plain asks GOOD",
+            units: SCRIPT_ITEMS,
+            make_ready: machine::script,
+            ours: our_delivery,
+            plain: plain_delivery,
         },
     ]
 }
@@ -278,4 +285,28 @@ fn items(answer: ScriptAnswer) -> Answer {
         number: answer.number,
         result: answer.place as u32,
     }
+}
+
+// All the bytes, call after call.
+fn our_delivery(m: &mut Machine) -> Answer {
+    let (vram, ram, pixels) = (&mut m.vram[..], &m.ram[..], &mut m.screen.pixels[0]);
+    let mut reader = exports::start_reader();
+    let mut bytes = &m.script[..];
+    let mut calls = 0;
+    loop {
+        let d = exports::deliver(&mut m.state, vram, ram, pixels, reader, bytes);
+        reader = d.reader;
+        bytes = &bytes[d.taken..];
+        calls += u32::from(d.called);
+        if d.taken == 0 || bytes.is_empty() {
+            return Answer {
+                number: d.number,
+                result: calls,
+            };
+        }
+    }
+}
+
+fn plain_delivery(m: &mut Machine) -> Answer {
+    plain_reader::deliver(&mut m.state, &mut m.vram, black_box(&m.script))
 }

@@ -20,19 +20,19 @@ impl Checker {
         Checker { machine: Machine::new(), book: None, checked: 0 }
     }
 
-    /// Does a command; gives its line, and a difference from the book if there is one.
-    pub fn apply(&mut self, command: &Command) -> (Option<String>, Option<String>) {
+    /// Does a command; gives its lines, and a difference from the book if there is one.
+    pub fn apply(&mut self, command: &Command) -> (Vec<String>, Option<String>) {
         if !booked(command, &self.machine) {
-            let line = self.machine.apply(command);
+            let lines = self.machine.apply(command);
             self.drop_if_changed(command);
-            return (line, None);
+            return (lines, None);
         }
         self.begin_if_possible();
         let expected = self.take(command);
-        let line = self.machine.apply(command);
-        let number = number_in(line.as_deref().unwrap_or(""));
+        let lines = self.machine.apply(command);
+        let number = lines.last().and_then(|line| number_in(line));
         let difference = expected.and_then(|expected| self.difference(expected, number));
-        (line, difference)
+        (lines, difference)
     }
 
     /// A book begins at a count of 0 with a good state and whole VRAM.
@@ -71,7 +71,7 @@ impl Checker {
     }
 
     /// Anything but a booked call ends the book's say if it touched what the book follows. A script
-    /// that is run is plain calls, so it does too.
+    /// that is run is plain calls, and so is one that a reader is brought: they do too.
     fn drop_if_changed(&mut self, command: &Command) {
         let Some(book) = &self.book else {
             return;
@@ -114,6 +114,11 @@ fn call_of<'a>(command: &Command, machine: &'a Machine) -> Option<Call<'a>> {
         14 => Some(Call::Acknowledge(command.a)),
         _ => None,
     }
+}
+
+/// The op in a line of output: its first word.
+pub fn op_in(line: &str) -> Option<u8> {
+    line.split(' ').next()?.parse().ok()
 }
 
 /// The answer's number in a line of output: its second word.

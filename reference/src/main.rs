@@ -16,6 +16,8 @@ mod calls;
 mod cells;
 mod check;
 mod cover;
+#[cfg(test)]
+mod deliveries;
 mod dma;
 mod draw;
 #[cfg(test)]
@@ -35,6 +37,8 @@ mod missing;
 mod pattern;
 mod planes;
 mod ports;
+#[cfg(test)]
+mod readers;
 mod replay;
 mod script;
 #[cfg(test)]
@@ -62,7 +66,7 @@ const USAGE: &str = "usage: reference replay [--book] < stream
        reference cover STREAM ..
        reference script < script
        reference scripts SEED COUNT DIRECTORY
-kinds: ports dma refusals tape timing drawing mix script";
+kinds: ports dma refusals tape timing drawing mix script reader";
 
 fn main() -> ExitCode {
     let words: Vec<String> = std::env::args().skip(1).collect();
@@ -104,7 +108,7 @@ fn replay_plain() -> io::Result<ExitCode> {
     let mut machine = replay::Machine::new();
     let mut out = io::BufWriter::new(io::stdout().lock());
     for command in input()? {
-        if let Some(line) = machine.apply(&command) {
+        for line in machine.apply(&command) {
             writeln!(out, "{line}")?;
         }
     }
@@ -118,8 +122,8 @@ fn replay_with_book() -> io::Result<ExitCode> {
     let mut out = io::BufWriter::new(io::stdout().lock());
     let mut code = ExitCode::SUCCESS;
     for (index, command) in input()?.iter().enumerate() {
-        let (line, difference) = checker.apply(command);
-        if let Some(line) = line {
+        let (lines, difference) = checker.apply(command);
+        for line in lines {
             writeln!(out, "{line}")?;
         }
         if let Some(difference) = difference {

@@ -1,10 +1,11 @@
 //! The replay stream: its commands, the machine they drive and the lines they print.
 
-use crate::answer::{numbers, Reply};
+use crate::answer::{numbers, Answer, Reply};
 use crate::calls;
 use crate::dma::Memories;
 use crate::ports::doubled;
 use crate::script::judge::Report;
+use crate::script::reader::{Delivery, Reader};
 use crate::script::run::{self, Lent};
 use crate::script::{self, Item};
 use crate::state::{State, COLOURS, REGISTERS, SCROLLS};
@@ -45,12 +46,18 @@ impl Command {
 
     /// Does it call the model? An item of no kind is not written and prints nothing.
     pub fn calls(self) -> bool {
-        (1..=17).contains(&self.op) || self.item().is_some()
+        matches!(self.op, 1..=17 | 20 | 22) || self.item().is_some()
     }
 
     /// The item that op 18 writes.
     pub fn item(self) -> Option<Item> {
         Item::of(self.a, self.b).filter(|_| self.op == 18)
+    }
+
+    /// The bytes of a script that op 20 delivers, as far as it has them.
+    pub fn delivered(self, script: &[u8]) -> &[u8] {
+        let from = script.get(usize::from(self.b)..).unwrap_or(&[]);
+        from.get(..self.c as usize).unwrap_or(from)
     }
 
     /// Has its call a recorded form?
@@ -93,6 +100,7 @@ impl Buffer {
 #[derive(Clone)]
 pub struct Machine {
     pub state: State,
+    pub reader: Reader,
     pub vram: Buffer,
     pub pixels: Buffer,
     pub work_ram: Buffer,
@@ -108,6 +116,7 @@ impl Machine {
     pub fn new() -> Machine {
         Machine {
             state: State::fresh(false),
+            reader: Reader::default(),
             vram: Buffer::zero(65_540, 65_536),
             pixels: Buffer::zero(324, 320),
             work_ram: Buffer::zero(65_540, 65_536),
@@ -125,24 +134,48 @@ impl Machine {
         Memories { cartridge: self.cartridge.lent(), work_ram: self.work_ram.lent() }
     }
 
-    /// Does a command and gives the line it prints, if any.
-    pub fn apply(&mut self, command: &Command) -> Option<String> {
+    /// Does a command and gives the lines it prints: one for a call, none for a set-up, and for a
+    /// delivery as many more as it makes calls.
+    pub fn apply(&mut self, command: &Command) -> Vec<String> {
         match command.op {
-            _ if command.calls() => Some(self.call_line(command)),
-            48 => Some(self.digest_line()),
+            20 => self.delivery_lines(command),
+            48 => vec![self.digest_line()],
+            _ if command.calls() => vec![self.call_line(command)],
             _ => {
                 self.set_up(command);
-                None
+                Vec::new()
             }
         }
     }
 
     fn call_line(&mut self, command: &Command) -> String {
-        let (number, result) = match command.op {
+        let report = match command.op {
             17 => self.run_script(),
+            22 => (self.reader.end(), 0),
             _ => numbers(self.call(command)),
         };
-        format!("{} {} {} {}", command.op, number, result, self.count)
+        self.line(command.op, report)
+    }
+
+    fn line(&self, op: u8, (number, result): (Answer, u32)) -> String {
+        format!("{} {} {} {}", op, number, result, self.count)
+    }
+
+    /// Op 20: a line for each call, then that of the delivery.
+    fn delivery_lines(&mut self, command: &Command) -> Vec<String> {
+        let bytes = command.delivered(self.script.lent()).to_vec();
+        let Delivery { number, calls } = self.deliver(&bytes);
+        let of_call = calls.iter().map(|(_, reply)| self.line(21, numbers(*reply)));
+        let of_delivery = self.line(20, (number, calls.len() as u32));
+        of_call.chain([of_delivery]).collect()
+    }
+
+    /// Brings bytes to the reader. Its calls are plain, whatever `recorded` is.
+    pub fn deliver(&mut self, bytes: &[u8]) -> Delivery {
+        let mut reader = std::mem::take(&mut self.reader);
+        let delivery = reader.delivery(&mut self.lent().0, bytes);
+        self.reader = reader;
+        delivery
     }
 
     /// Op 17; a refused script has a place too.
@@ -216,9 +249,10 @@ impl Machine {
         }
     }
 
-    /// Ops 32 to 39.
+    /// Ops 19 and 32 to 39. The state is made anew without the reader, and the reader without it.
     fn set_up(&mut self, command: &Command) {
         match command.op {
+            19 => self.reader = Reader::default(),
             32 => set_field(&mut self.state, command),
             33 => self.state = State::fresh(command.a % 2 == 1),
             34..=36 | 39 => self.set_buffer(command),

@@ -15,8 +15,8 @@ const RECORD: Command = Command { op: 38, a: 1, b: 0, c: 0 };
 const FRAME: Command = Command { op: 9, a: 0, b: 0, c: 0 };
 
 /// The lines that these commands print.
-fn lines(machine: &mut Machine, commands: &[Command]) -> Vec<String> {
-    commands.iter().filter_map(|command| machine.apply(command)).collect()
+pub fn lines(machine: &mut Machine, commands: &[Command]) -> Vec<String> {
+    commands.iter().flat_map(|command| machine.apply(command)).collect()
 }
 
 /// Register 15 is written and the status read, as items at bytes 1 and 6.

@@ -533,13 +533,15 @@ fn kinds_keep_to_their_ops() {
         for seed in 0..20 {
             for command in stream(seed, kind, 400) {
                 let plain = matches!(command.op, 1..=7 | 9 | 12..=16 | 32..=36 | 39 | 48);
+                let of_reader = matches!(command.op, 19..=22);
                 let fits = match kind {
                     Kind::Ports | Kind::Dma => plain,
                     Kind::Refusals => plain || command.op == 8,
                     Kind::Drawing => plain || matches!(command.op, 8 | 11),
-                    Kind::Tape | Kind::Timing => !matches!(command.op, 11 | 17 | 18),
-                    Kind::Script => command.op != 11,
-                    Kind::Mix => true,
+                    Kind::Tape | Kind::Timing => !of_reader && !matches!(command.op, 11 | 17 | 18),
+                    Kind::Script => !of_reader && command.op != 11,
+                    Kind::Mix => !of_reader,
+                    Kind::Reader => command.op != 11,
                 };
                 assert!(fits, "{kind:?} {seed}: {command:?}");
             }
@@ -551,7 +553,8 @@ fn kinds_keep_to_their_ops() {
 #[test]
 fn any_commands_are_borne() {
     let mut checker = Checker::new();
-    for (seed, kind) in [(0, Kind::Mix), (1, Kind::Mix), (2, Kind::Mix), (3, Kind::Script)] {
+    let mixed = (0..3).map(|seed| (seed, Kind::Mix));
+    for (seed, kind) in mixed.chain([(3, Kind::Script), (4, Kind::Reader)]) {
         for command in stream(seed, kind, 400) {
             let turned = Command {
                 c: command.c.rotate_left(7) ^ u32::from(command.b),

@@ -20,6 +20,8 @@ use stream::machine::SCRIPT;
 use stream::machine::lent;
 use stream::session::turn;
 use stream::setup::fill;
+use stream::turn::LINES;
+use stream::turn::still;
 use vdp_script::admitted::admitted;
 use vdp_state::cell::byte_at;
 
@@ -59,13 +61,13 @@ fn repeat(c: Case, text: &[u8]) -> Case {
     group_begun(c, times.end, times.value)
 }
 
-// The op of a letter: 1 to 18, and 32 to 39.
+// The op of a letter: 1 to 22, and 32 to 39.
 fn op_of(letter: u8) -> u8 {
-    let i = place_of(b"cCdDrsulfkpxiavoqw!zbgnmth", letter);
-    if i < 18 {
+    let i = place_of(b"cCdDrsulfkpxiavoqw@y~e!zbgnmth", letter);
+    if i < 22 {
         (i as u8) + 1
     } else {
-        ((i % 32) as u8) + 14
+        ((i % 32) as u8) + 10
     }
 }
 
@@ -91,7 +93,7 @@ fn command(text: &[u8], at: usize) -> Read {
     }
 }
 
-// A command is done.
+// A command is done; a delivery as often as it makes a call, and once more.
 fn act(
     c: Case,
     text: &[u8],
@@ -103,11 +105,16 @@ fn act(
 ) -> Case {
     let read = command(text, c.at);
     let k = read.command;
-    answered(
-        c,
-        turn(c.machine, k, vram, ram, cartridge, tape, script),
-        read.end,
-    )
+    let mut next = c;
+    let mut left = LINES;
+    while 0 < left {
+        left -= 1;
+        let t = turn(next.machine, k, vram, ram, cartridge, tape, script);
+        let after = answered(next, t, read.end);
+        next = after;
+        left = still(left, after.machine.delivering);
+    }
+    next
 }
 
 // `j`: the script is judged as the program `script` does it.

@@ -2,19 +2,21 @@
 // standard output. Another implementation that reads the same stream must write the same lines.
 mod print;
 
-ghost use Prim.Native.Nat.{_≤_};
 use crate::print::print;
 use libc::STDIN_FILENO;
 use stream::command::COMMAND_BYTES;
 use stream::command::Command;
 use stream::command::command_of;
 use stream::machine::CARTRIDGE_HELD;
+use stream::machine::Machine;
 use stream::machine::SCRIPT_HELD;
 use stream::machine::TAPE_HELD;
 use stream::machine::VRAM_HELD;
 use stream::machine::WORK_RAM_HELD;
 use stream::machine::start;
 use stream::session::turn;
+use stream::turn::LINES;
+use stream::turn::still;
 
 // The most commands that a stream may have.
 const COMMANDS: u32 = 1_048_576;
@@ -40,11 +42,27 @@ fn read_command() -> Next {
     }
 }
 
-// How many of these commands may still come: none after the input's end.
-fn still(left: u32, whole: bool) -> u32
-    ensures { λ r. ⌜ r ≤ left ⌝ }
-{
-    if whole { left } else { 0 }
+// Does a command. A delivery prints a line for each call that it makes, and is done with its own.
+fn obey(
+    m: Machine,
+    k: Command,
+    vram: &mut [u8],
+    ram: &mut [u8],
+    cartridge: &mut [u8],
+    tape: &mut [u8],
+    script: &mut [u8],
+) -> Machine {
+    let mut machine = m;
+    let mut left = LINES;
+    while 0 < left {
+        let t = turn(machine, k, vram, ram, cartridge, tape, script);
+        let line = t.line;
+        print(line);
+        let after = t.machine;
+        machine = after;
+        left = still(left - 1, after.delivering);
+    }
+    machine
 }
 
 // Does a whole stream on buffers that are zero.
@@ -55,10 +73,7 @@ fn play(vram: &mut [u8], ram: &mut [u8], cartridge: &mut [u8], tape: &mut [u8], 
         let next = read_command();
         left = still(left - 1, next.whole);
         let k = next.command;
-        let t = turn(m, k, vram, ram, cartridge, tape, script);
-        let line = t.line;
-        print(line);
-        let after = t.machine;
+        let after = obey(m, k, vram, ram, cartridge, tape, script);
         m = after;
     }
 }

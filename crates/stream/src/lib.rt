@@ -7,6 +7,7 @@ pub mod generator;
 pub mod line;
 pub mod machine;
 pub mod picture;
+pub mod reader;
 pub mod script;
 pub mod session;
 pub mod setup;

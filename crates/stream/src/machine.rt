@@ -1,7 +1,9 @@
 // What is held between commands beside the large buffers: the state, the pixel and row buffers, the lengths at which
-// each buffer is lent, the tape's count and whether calls are recorded.
+// each buffer is lent, the tape's count, whether calls are recorded, and the reader.
 ghost use Prim.Native.Nat.{_≤_, min};
 ghost use mathlib.Core.Path.{_≡_};
+use vdp_reader::reader::Reader;
+use vdp_reader::reader::started;
 use vdp_state::fresh::fresh;
 use vdp_state::state::State;
 
@@ -44,6 +46,11 @@ pub struct Machine {
     pub lengths: [usize; 7],
     pub count: u32,
     pub recorded: bool,
+    pub reader: Reader,
+    // whether a delivery is under way, where it goes on in the script, and the calls that it has made
+    pub delivering: bool,
+    pub at: usize,
+    pub calls: u32,
 }
 
 // The machine as a stream finds it.
@@ -55,6 +62,10 @@ pub fn start() -> Machine {
         lengths: [65536, 320, 65536, 131_072, 131_072, 8, 0],
         count: 0,
         recorded: false,
+        reader: started(),
+        delivering: false,
+        at: 0,
+        calls: 0,
     }
 }
 

@@ -13,6 +13,9 @@ use crate::machine::lent;
 use crate::picture::line_turn;
 use crate::picture::parts_turn;
 use crate::picture::row_turn;
+use crate::reader::deliver_turn;
+use crate::reader::end_turn;
+use crate::reader::start_turn;
 use crate::script::run_turn;
 use crate::script::write_turn;
 use crate::setup::set_buffers;
@@ -29,7 +32,7 @@ fn back_turn(m: Machine, k: Command, vram: &mut [u8], tape: &[u8]) -> Turn {
     answered(m, k.op, r)
 }
 
-// Ops 1 to 17 on what is lent of the buffers.
+// Ops 1 to 17 and 20 on what is lent of the buffers.
 fn call<'a>(
     m: Machine,
     k: Command,
@@ -47,11 +50,12 @@ fn call<'a>(
         12 => parts_turn(m, k),
         15..=16 => answered(m, op, timing_read(m, op)),
         17 => run_turn(m, vram, cartridge, ram, script),
+        20 => deliver_turn(m, k, vram, cartridge, ram, script),
         _ => answered(m, op, chip_call(m, k, vram, cartridge, ram, tape)),
     }
 }
 
-// Ops 1 to 17: each buffer is lent at its length.
+// Ops 1 to 17 and 20: each buffer is lent at its length.
 fn lent_call<'a>(
     m: Machine,
     k: Command,
@@ -112,8 +116,10 @@ pub fn turn(
 ) -> Turn {
     let op = k.op;
     match op {
-        1..=17 => lent_call(m, k, vram, ram, cartridge, tape, script),
+        1..=17 | 20 => lent_call(m, k, vram, ram, cartridge, tape, script),
         18 => write_turn(m, k, script),
+        19 => start_turn(m),
+        22 => end_turn(m),
         _ => {
             set_script(k, script);
             set_up(m, k, vram, ram, cartridge, tape)

@@ -1,4 +1,5 @@
 // What a command leaves: the machine after it and the line that it prints.
+ghost use Prim.Native.Nat.{_≤_};
 use crate::line::Line;
 use crate::line::call_line;
 use crate::line::no_line;
@@ -8,6 +9,16 @@ use vdp_tape::recorder::TapeAnswer;
 pub struct Turn {
     pub machine: Machine,
     pub line: Line,
+}
+
+// The most lines that a command prints, and more: a script that is held has fewer items than bytes.
+pub const LINES: u32 = 16389;
+
+// How many of these may still come: none after the last.
+pub fn still(left: u32, more: bool) -> u32
+    ensures { λ r. ⌜ r ≤ left ⌝ }
+{
+    if more { left } else { 0 }
 }
 
 // A command that prints nothing.

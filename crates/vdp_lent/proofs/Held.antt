@@ -1,7 +1,7 @@
--- The structs of the thin functions as the laws of the crate `lent` take them: `State`, which is lent; `Answer`, `TapeAnswer`, `ScriptAnswer` and `ItemAnswer`, with which a call by value answers; `LentAnswer` and its like, which a thin function returns.
+-- The structs of the thin functions as the laws of the crate `lent` take them: `State`, which is lent; `Answer`, `TapeAnswer`, `ScriptAnswer`, `ItemAnswer` and `Delivery`, with which a call by value answers; `LentAnswer` and its like, which a thin function returns; and `Reader`, which is given by value.
 --     answer       the form of a plain call: the answer's state goes back, and its number and result are given
 --     tape-answer  the form of a recorded call and of step back: the count is given too
---     script-answer, item-answer  the forms of a script that is run, and of one of its items
+--     script-answer, item-answer, delivery  the forms of a script that is run, of one of its items, and of bytes that are delivered
 -- Assumes nothing.
 use mathlib.Core.Path.{refl}
 use mathlib.Core.List.{[], _∷_}
@@ -17,6 +17,10 @@ use Rattle.vdp_script.proofs.run.ScriptAnswer as P
 use Rattle.vdp_script.proofs.run.ScriptAnswer.Laws as P′
 use Rattle.vdp_script.proofs.call.ItemAnswer as I
 use Rattle.vdp_script.proofs.call.ItemAnswer.Laws as I′
+use Rattle.vdp_reader.proofs.reader.Reader as K
+use Rattle.vdp_reader.proofs.reader.Reader.Laws as K′
+use Rattle.vdp_reader.proofs.deliver.Delivery as D
+use Rattle.vdp_reader.proofs.deliver.Delivery.Laws as D′
 use Rattle.vdp_tape.proofs.recorder.TapeAnswer as R
 use Rattle.vdp_tape.proofs.recorder.TapeAnswer.Laws as R′
 use Rattle.vdp_lent.proofs.answer.LentAnswer as B
@@ -27,6 +31,8 @@ use Rattle.vdp_lent.proofs.answer.LentScriptAnswer as Q
 use Rattle.vdp_lent.proofs.answer.LentScriptAnswer.Laws as Q′
 use Rattle.vdp_lent.proofs.answer.LentItemAnswer as J
 use Rattle.vdp_lent.proofs.answer.LentItemAnswer.Laws as J′
+use Rattle.vdp_lent.proofs.answer.LentDelivery as G
+use Rattle.vdp_lent.proofs.answer.LentDelivery.Laws as G′
 use Rattle.lent.proofs.Datum.{Datum, Taken, a-struct, a-field}
 use Rattle.lent.proofs.Lent.{Form}
 
@@ -140,3 +146,33 @@ to-item-given = record {
 
 abbrev pub item-answer : Form
 item-answer = record { S = state; Y = item-answered; Z = item-given; back = to-item-state; out = to-item-given }
+
+abbrev pub a-reader : Datum
+a-reader = a-struct K.the-type K′.the-laws K′.the-plain K′.mir refl
+
+abbrev pub delivered : Datum
+delivered = a-struct D.the-type D′.the-laws D′.the-plain D′.mir refl
+
+abbrev pub delivery-given : Datum
+delivery-given = a-struct G.the-type G′.the-laws G′.the-plain G′.mir refl
+
+-- field 5 of a Delivery, at byte 20
+abbrev pub to-delivery-state : Taken delivered state
+to-delivery-state = record {
+  of = λ r. r .state;
+  is = λ r v p. LL.owed D.the-type D′.the-laws r _ p .1 .1 .1 .1 .1 .0;
+  rv = λ i. rvOpd (copy (place i (field 5 ∷ [])));
+  yields = λ t W Γ E i n l r back e p. of-opd t (a-field t n e p 5 20 refl);
+}
+
+-- fields 0 to 4 of a Delivery, at bytes 0, 1, 4, 8 and 16
+abbrev pub to-delivery-given : Taken delivered delivery-given
+to-delivery-given = record {
+  of = λ r. record { number = r .number; called = r .called; result = r .result; taken = r .taken; reader = r .reader };
+  is = λ r v p. let had = LL.owed D.the-type D′.the-laws r _ p in LL.owes G.the-type G′.the-laws _ (had .0, (had .1 .0, (had .1 .1 .0, (had .1 .1 .1 .0, (had .1 .1 .1 .1 .0, tt)))));
+  rv = λ i. aggregate (copy (place i (field 0 ∷ [])) ∷ copy (place i (field 1 ∷ [])) ∷ copy (place i (field 2 ∷ [])) ∷ copy (place i (field 3 ∷ [])) ∷ copy (place i (field 4 ∷ [])) ∷ []);
+  yields = λ t W Γ E i n l r back e p. agg t (and-then t (a-field t n e p 0 0 refl) (and-then t (a-field t n e p 1 1 refl) (and-then t (a-field t n e p 2 4 refl) (and-then t (a-field t n e p 3 8 refl) (and-then t (a-field t n e p 4 16 refl) (no-more t))))));
+}
+
+abbrev pub delivery : Form
+delivery = record { S = state; Y = delivered; Z = delivery-given; back = to-delivery-state; out = to-delivery-given }

@@ -1,4 +1,5 @@
 // What a call gives back beside the state that it was lent (definition, Numbers a call may answer).
+use vdp_reader::reader::Reader;
 
 // The number, and the word read, the units made or the visits, else 0.
 #[repr(C)]
@@ -28,4 +29,15 @@ pub struct LentItemAnswer {
     pub number: u8,
     pub result: u32,
     pub next: usize,
+}
+
+// Of bytes that were delivered: the number, whether a call was made and its result, how many bytes were taken, and the
+// reader that is left.
+#[repr(C)]
+pub struct LentDelivery {
+    pub number: u8,
+    pub called: bool,
+    pub result: u32,
+    pub taken: usize,
+    pub reader: Reader,
 }

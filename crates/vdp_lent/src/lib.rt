@@ -5,6 +5,7 @@ pub mod answer;
 pub mod fresh;
 pub mod line;
 pub mod ports;
+pub mod reader;
 pub mod run;
 pub mod script;
 pub mod tape;

@@ -31,11 +31,11 @@ use Rattle.vdp_script.specs.Missing.{namesMissing, pendingAfter, anyMiss
 use Rattle.vdp_script.specs.Run.{ScriptOutcome, runItems}
 use Rattle.vdp_script.specs.Whole.{PendingAsCalled}
 
-abbrev pendingOf : State → Bool
+abbrev pub pendingOf : State → Bool
 pendingOf s = s .control .port .pending
 
 -- an answer that leaves this flag, if it is done
-abbrev Leaves : Bool → Answer → Type 0
+abbrev pub Leaves : Bool → Answer → Type 0
 Leaves pending a = a .number ≡ 0 → pendingOf (a .state) ≡ pending
 
 -- ---- a call of one step leaves the flag of its step
@@ -88,7 +88,7 @@ line-left c n pixels =
 
 -- ---- the call of an item
 module _ (cartridge ram : List ℕ) (c : Chip) (pixels : List ℕ) where
-  item-left : (i : Item) → Leaves (pendingAfter (pendingOf (c .state)) i) (callItem i cartridge ram c pixels .answer)
+  pub item-left : (i : Item) → Leaves (pendingAfter (pendingOf (c .state)) i) (callItem i cartridge ram c pixels .answer)
   unfolding perform dataWriteStep dataReadStep
   item-left (ControlWord w) z = one-step (first (controlTests (c .state))) (c .state) (controlStep (c .state) w) 0 z ∙ word-left (c .state) w
   item-left (DataWord w) z = made-chip (first (dataTests c)) 0 c (perform c (dataWriteStep (c .state) w)) z

@@ -27,7 +27,7 @@ pub struct ItemAnswer {
 }
 
 // Makes the call of an item.
-fn call_item<'a>(
+pub fn call_item<'a>(
     s: State,
     vram: &mut [u8],
     cartridge: &'a [u8],

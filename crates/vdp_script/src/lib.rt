@@ -4,6 +4,6 @@ pub mod call;
 pub mod form;
 pub mod item;
 pub mod judge;
-mod missing;
+pub mod missing;
 pub mod run;
 pub mod write;

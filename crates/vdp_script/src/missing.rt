@@ -27,7 +27,8 @@ fn writes_missing(taken: Taken, w: u16) -> bool
     }
 }
 
-fn names_missing(pending: bool, item: Item) -> bool
+// Whether an item names a missing register, by the pending flag that its word would find.
+pub fn names_missing(pending: bool, item: Item) -> bool
     ensures { λ r. ⌜ r ≡ namesMissing pending item ⌝ }
 {
     match item {

@@ -1,7 +1,7 @@
 //! Which answers and rules streams meet, and which they never meet.
 //! The counts come from looking at each call from outside, before and after it; for the sprite
-//! flags, for used up, for cut runs and for frames also from what the calls before it did. The
-//! calls of a script are counted by themselves.
+//! flags, for used up, for cut runs, for frames and for the reader also from what the calls before
+//! it did. The calls of a script and those of a reader are counted by themselves.
 
 mod columns;
 mod cuts;
@@ -10,6 +10,7 @@ mod frames;
 mod lines;
 mod masking;
 mod ports;
+mod reader;
 mod refused;
 mod refused_timing;
 mod runs;
@@ -21,17 +22,19 @@ mod used_up;
 use std::collections::BTreeMap;
 
 use crate::answer::Answer;
-use crate::check::number_in;
+use crate::check::{number_in, op_in};
 use crate::planes::View;
 use crate::replay::{Command, Machine};
 use crate::tape::{Record, RECORD_BYTES};
 use cuts::Cuts;
 use flags::Flags;
 use frames::Frames;
+use reader::Reading;
 use used_up::UsedUp;
 
-/// The answers that each op may give (definition, Numbers a call may answer).
-const ANSWERS: [(u8, &[Answer]); 18] = [
+/// The answers that the lines of each op may have (definition, Numbers a call may answer). Those of
+/// op 21 are the calls that a reader makes.
+const ANSWERS: [(u8, &[Answer]); 21] = [
     (1, &[0, 1, 2, 3, 6]),
     (2, &[0, 1, 2, 3, 6]),
     (3, &[0, 1, 2, 3, 6]),
@@ -50,6 +53,9 @@ const ANSWERS: [(u8, &[Answer]); 18] = [
     (16, &[0, 1]),
     (17, &[0, 1, 2, 3, 4, 5, 7, 11, 12]),
     (18, &[0, 2]),
+    (20, &[0, 1, 2, 3, 4, 5, 7, 11, 12]),
+    (21, &[0, 1, 2, 3, 4, 5, 7]),
+    (22, &[0, 1, 2, 3, 4, 5, 7, 11, 12]),
 ];
 
 /// How often each answer and each rule was met.
@@ -71,7 +77,8 @@ impl Tally {
         let of_lines = [lines::rules(), masking::rules(), used_up::rules(), shading::rules()];
         let of_timing = [timing::rules(), refused_timing::rules()];
         let more_calls = [flags::rules(), cuts::rules(), frames::rules()];
-        for list in [&one_call[..], &of_lines, &of_timing, &more_calls, &[script::rules()]] {
+        let of_scripts = [script::rules(), reader::rules()];
+        for list in [&one_call[..], &of_lines, &of_timing, &more_calls, &of_scripts] {
             tally.rules.extend(list.concat().into_iter().map(|rule| (rule, 0)));
         }
         tally
@@ -98,6 +105,7 @@ impl Tally {
                 self.call(&mut machine, &mut past, command);
             } else if command.op != 48 {
                 script::items::count_silent(self, &machine, command);
+                past.reading.silent(self, &machine, command);
                 machine.apply(command);
                 past.set_up(command);
             }
@@ -106,9 +114,8 @@ impl Tally {
 
     fn call(&mut self, machine: &mut Machine, past: &mut Past, command: &Command) {
         let before = Before { machine: machine.clone(), command: *command };
-        let line = machine.apply(command).unwrap_or_default();
-        let number = number_in(&line).unwrap_or(0);
-        *self.answers.entry((command.op, number)).or_insert(0) += 1;
+        let number = self.answered(&machine.apply(command));
+        past.reading.count(self, &before, machine, number);
         match command.op {
             17 => {
                 past.script(&before, machine);
@@ -118,11 +125,23 @@ impl Tally {
                 past.cuts.set_up();
                 script::items::count(self, &before, number);
             }
+            20 => past.script(&before, machine),
+            22 => past.cuts.set_up(),
             _ => {
                 past.count(self, &before, machine, number);
                 self.one_call(&before, machine, number);
             }
         }
+    }
+
+    /// Counts the answers of lines by their ops, and gives the number of the last line.
+    fn answered(&mut self, lines: &[String]) -> Answer {
+        let mut last = 0;
+        for (op, number) in lines.iter().filter_map(|line| Some((op_in(line)?, number_in(line)?))) {
+            *self.answers.entry((op, number)).or_insert(0) += 1;
+            last = number;
+        }
+        last
     }
 
     /// Ops 1 to 16.
@@ -185,6 +204,7 @@ struct Past {
     cuts: Cuts,
     frames: Frames,
     used_up: UsedUp,
+    reading: Reading,
 }
 
 impl Past {

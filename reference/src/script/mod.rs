@@ -5,6 +5,7 @@ pub mod files;
 pub mod form;
 pub mod judge;
 pub mod program;
+pub mod reader;
 pub mod run;
 
 use crate::answer::{Reply, BAD_BUFFER};

@@ -6,6 +6,7 @@ mod drawing;
 mod masking;
 mod mix;
 mod ports;
+pub mod reader;
 mod refusals;
 pub mod script;
 mod shading;
@@ -26,10 +27,11 @@ pub enum Kind {
     Drawing,
     Mix,
     Script,
+    Reader,
 }
 
 impl Kind {
-    pub const ALL: [(Kind, &'static str); 8] = [
+    pub const ALL: [(Kind, &'static str); 9] = [
         (Kind::Ports, "ports"),
         (Kind::Dma, "dma"),
         (Kind::Refusals, "refusals"),
@@ -38,6 +40,7 @@ impl Kind {
         (Kind::Drawing, "drawing"),
         (Kind::Mix, "mix"),
         (Kind::Script, "script"),
+        (Kind::Reader, "reader"),
     ];
 
     pub fn named(name: &str) -> Option<Kind> {
@@ -58,6 +61,7 @@ pub fn stream(seed: u64, kind: Kind, count: usize) -> Vec<Command> {
         Kind::Drawing => drawing::fill(&mut maker),
         Kind::Mix => mix::fill(&mut maker),
         Kind::Script => script::fill(&mut maker),
+        Kind::Reader => reader::fill(&mut maker),
     }
     maker.finish()
 }
@@ -236,6 +240,22 @@ impl Maker {
 
     pub fn run_script(&mut self) {
         self.emit(17, 0, 0, 0);
+    }
+
+    /// Of op 19 nothing is looked at, and of the next two not all.
+    pub fn start_reader(&mut self) {
+        let (any, more) = (self.byte(), self.word());
+        self.emit(19, any, more, 0);
+    }
+
+    pub fn deliver(&mut self, from: u32, bytes: u32) {
+        let any = self.byte();
+        self.emit(20, any, from as u16, bytes);
+    }
+
+    pub fn end_notice(&mut self) {
+        let (any, more) = (self.byte(), self.word());
+        self.emit(22, any, more, 0);
     }
 
     /// An item without a content has any, which is not looked at.

@@ -15,8 +15,8 @@ abbrev μ-loop : tie.MeasureT-loop
 
 loop-again : tie.Need-loop-again Inv-loop μ-loop
 loop-again c =
-    let w = c .before .before .before .before .before .before .before .before .before .before .before .before .before in
-    let kept = w .turn .kept .1 .1 in
+    let w = c .before .before .before .before .before .before .before .before .before .before in
+    let kept = w .obey .kept .1 .1 in
     let inv = w .before .before .before .before .before .before .before .before .before .before .loop .inv in
     (kept .0 ∙ inv .0, kept .1 .0 ∙ inv .1, kept .1 .1 .0 ∙ inv .2, kept .1 .1 .1 .0 ∙ inv .3, kept .1 .1 .1 .1 .0 ∙ inv .4)
 
@@ -30,7 +30,6 @@ play-spec =
     (λ c. search needs)
     (λ c κs. search needs)
     (λ c. search needs)
-    (λ c κs. search needs)
     (λ c κs. search needs)
     (λ c κs. search needs)
     (λ c. search needs)

@@ -4,7 +4,7 @@
 mod effects;
 mod form;
 pub mod items;
-mod missing;
+pub mod missing;
 mod turned_down;
 
 use super::refused::{count_over, free};
@@ -44,7 +44,7 @@ const RULES: &[&str] = &[
 ];
 
 /// The calls by their kinds, from 1 on, with the numbers that each may be refused with.
-const CALLS: [(&str, &[Answer]); 7] = [
+pub const CALLS: [(&str, &[Answer]); 7] = [
     ("control write", &[BAD_STATE, BUSY]),
     ("data write", &[BAD_STATE, BAD_BUFFER, BUSY]),
     ("data read", &[BAD_STATE, BAD_BUFFER, BUSY]),
@@ -111,7 +111,7 @@ fn begun_and_ended(kind: u8) -> String {
     format!("script: {} begun and ended by one script", kind_name(kind))
 }
 
-fn call_name(item: Item) -> &'static str {
+pub fn call_name(item: Item) -> &'static str {
     CALLS[usize::from(item.kind()) - 1].0
 }
 
@@ -225,9 +225,9 @@ fn stands(tally: &mut Tally, before: &Before, after: &Machine) {
 }
 
 /// What calls can change.
-const CHANGED: [&str; 3] = ["the state", "VRAM", "the pixels"];
+pub const CHANGED: [&str; 3] = ["the state", "VRAM", "the pixels"];
 
-fn changed(then: &Machine, now: &Machine) -> Vec<&'static str> {
+pub fn changed(then: &Machine, now: &Machine) -> Vec<&'static str> {
     let differ = [
         then.state != now.state,
         then.vram.bytes != now.vram.bytes,

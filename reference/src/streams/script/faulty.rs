@@ -58,7 +58,7 @@ pub fn fault(maker: &mut Maker, at: u32, has_content: bool) {
 }
 
 /// Sets the bytes that differ.
-fn poke_all(maker: &mut Maker, at: u32, bytes: &[u8]) {
+pub fn poke_all(maker: &mut Maker, at: u32, bytes: &[u8]) {
     for (at, byte) in (at..).zip(bytes) {
         if maker.machine.script.bytes[at as usize] != *byte {
             maker.poke(SCRIPT, at, *byte);

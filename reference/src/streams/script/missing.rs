@@ -61,7 +61,7 @@ pub fn put_among(maker: &mut Maker, items: &mut Vec<Item>) {
 }
 
 /// What stands just before the word: half a command, a whole one, and one of the other calls.
-fn lead(maker: &mut Maker) -> Vec<Item> {
+pub fn lead(maker: &mut Maker) -> Vec<Item> {
     let (first, second) = (maker.first_half(), maker.word());
     let [first, second] = [first, second].map(Item::ControlWrite);
     let other = other_item(maker);
@@ -88,7 +88,7 @@ pub fn missing(maker: &mut Maker) -> Item {
 }
 
 /// The same for a register that there is, or a first half with the bits of one that is missing.
-fn almost(maker: &mut Maker) -> Item {
+pub fn almost(maker: &mut Maker) -> Item {
     let word = maker.word();
     let register = 0x8000 | word & 0x20FF | maker.pick(&[23, 23, word % 24]) << 8;
     Item::ControlWrite(maker.pick(&[register, register, word & 0x5FFF | 0x1800]))

@@ -2,7 +2,7 @@
 //! word for a missing register, and items written where there is room for them and where there is
 //! none.
 
-mod faulty;
+pub mod faulty;
 pub mod items;
 pub mod missing;
 mod rooms;
@@ -17,7 +17,7 @@ use stopped::spoil_state;
 /// A script has no more items than these, so that a stream has many scripts.
 const MOST_ITEMS: usize = 40;
 /// The bytes that the stream holds for a script.
-const HELD: u32 = 16_388;
+pub const HELD: u32 = 16_388;
 
 pub fn fill(maker: &mut Maker) {
     for buffer in [PIXELS, WORK_RAM, CARTRIDGE] {
@@ -45,7 +45,7 @@ pub fn episode(maker: &mut Maker) {
 }
 
 /// Plain calls between scripts, or none, so that one script goes on where another ended.
-fn between(maker: &mut Maker) {
+pub fn between(maker: &mut Maker) {
     match maker.below(24) {
         0 | 1 => maker.calm(),
         2 | 3 => {

@@ -50,9 +50,23 @@ const ALL: [Why; 19] = [
 const BY_CALLS: [Why; 5] =
     [Why::InTransfer, Why::InFillOrCopy, Why::NotModelled, Why::NoSuchLine, Why::NotLent];
 
+pub fn episode(maker: &mut Maker) {
+    let (items, field) = some_refused(maker);
+    write(maker, &items);
+    maker.run_script();
+    mend(maker, field);
+    // Now the script may go further, or be refused at another place.
+    if maker.once_in(3) {
+        maker.run_script();
+    }
+}
+
+/// A field of the state, and what it held before it was made bad.
+pub type Spoilt = (u8, u32);
+
 /// Calls that are done, one that is refused, and calls that would be done. What leads to the
 /// refusal comes before the script, so that the first call may meet it, or is a part of the script.
-pub fn episode(maker: &mut Maker) {
+pub fn some_refused(maker: &mut Maker) -> (Vec<Item>, Option<Spoilt>) {
     maker.calm();
     let why = maker.pick(&ALL);
     if matches!(why, Why::Pixels | Why::NotModelled | Why::NoSuchLine) {
@@ -71,20 +85,19 @@ pub fn episode(maker: &mut Maker) {
     if maker.once_in(2) {
         items.extend(some_items(maker));
     }
-    write(maker, &items);
-    maker.run_script();
+    (items, field)
+}
+
+/// Lengths as at the start, and the field as it was.
+pub fn mend(maker: &mut Maker, field: Option<Spoilt>) {
     refusals::mend_lengths(maker);
     if let Some((field, value)) = field {
         maker.field(field, 0, value);
     }
-    // Now the script may go further, or be refused at another place.
-    if maker.once_in(3) {
-        maker.run_script();
-    }
 }
 
 /// Makes the state bad by one field, in every DMA kind; gives the field and what it held.
-pub fn spoil_state(maker: &mut Maker) -> (u8, u32) {
+pub fn spoil_state(maker: &mut Maker) -> Spoilt {
     let state = &maker.machine.state;
     let fields = [
         (CODE, u32::from(state.code), 64),
