@@ -72,7 +72,7 @@ reachFrom (Kept r) onward = oneMore (onward r)
 reachFrom (Whole i) onward = lastTaken 1 (Whole i)
 reachFrom Faulty onward = lastTaken 1 Faulty
 
--- "and where there is none behind the last byte"
+-- "and, where there is none, behind the last byte"
 abbrev pub reach : Reader → List ℕ → Reached
 reach r [] = lastTaken 0 (Kept r)
 reach r (b ∷ bytes) = reachFrom (takes r b) (λ next. reach next bytes)
