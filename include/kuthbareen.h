@@ -308,9 +308,9 @@ kuthbareen_item_written kuthbareen_write_item(uint8_t *script, size_t script_siz
 kuthbareen_reader kuthbareen_start_reader(void);
 
 /* Delivers bytes of a script to a reader and makes one call at most: "it ends behind the byte that makes an item whole
- * or is faulty, and, where there is none, behind the last byte." Go on with the bytes that were not taken as long as some
- * were taken and some are left. A number other than KUTHBAREEN_DONE says that the reader takes no more bytes and that
- * state, VRAM and pixels are as this call found them; the calls before it stand. */
+ * or is faulty, and, where there is none, behind the last byte." Go on with the bytes that were not taken as long as
+ * some were taken and some are left. A number other than KUTHBAREEN_DONE says that the reader takes no more bytes and
+ * that state, VRAM and pixels are as this call found them; the calls before it stand. */
 kuthbareen_delivery kuthbareen_deliver(kuthbareen_state *state, uint8_t *vram, size_t vram_size,
                                        const uint8_t *cartridge, size_t cartridge_size, const uint8_t *ram,
                                        size_t ram_size, uint8_t *pixels, size_t pixels_size, kuthbareen_reader reader,
