@@ -46,6 +46,16 @@ static size_t size_of(item i)
     return i.kind == 3 || i.kind == 4 || i.kind == 7 ? 3 : 5;
 }
 
+/* Where the item at a place of a list begins in its script; for their number, where the last one ends. */
+static size_t byte_of(const item *list, unsigned place)
+{
+    size_t byte = KUTHBAREEN_FIRST_ITEM;
+    unsigned i;
+    for (i = 0; i < place; i++)
+        byte += size_of(list[i]);
+    return byte;
+}
+
 /* Control words of use: registers 1, 12, 15, 19 and 23, commands to write and read, with DMA or without. */
 static uint16_t control_word(void)
 {

@@ -171,21 +171,11 @@ static void clear(uint8_t version)
     fault = version == 1 ? NOWHERE : 0;
 }
 
-/* Where an item of the list begins in the script; for their number, where the last one ends. */
-static size_t byte_of(unsigned place)
-{
-    size_t byte = KUTHBAREEN_FIRST_ITEM;
-    unsigned i;
-    for (i = 0; i < place; i++)
-        byte += size_of(list[i]);
-    return byte;
-}
-
 /* How many items are whole with the first n bytes. */
 static unsigned whole(size_t n)
 {
     unsigned place = 0;
-    while (place < items && byte_of(place + 1) <= n)
+    while (place < items && byte_of(list, place + 1) <= n)
         place++;
     return place;
 }
@@ -205,7 +195,7 @@ static void play(void)
     called = 0;
     ends = KUTHBAREEN_DONE;
     for (place = 0; fault != 0 && place < items && ends == KUTHBAREEN_DONE; place++) {
-        ends_at = byte_of(place + 1);
+        ends_at = byte_of(list, place + 1);
         if (names_missing(theirs.chip.control.port.pending, list[place])) {
             ends = KUTHBAREEN_MISSING_REGISTER;
         } else {
@@ -231,7 +221,7 @@ static bool over(size_t n)
 /* The reader behind the first n bytes, by the table of stages. */
 static kuthbareen_reader reader_at(size_t n)
 {
-    size_t begun = byte_of(whole(n));
+    size_t begun = byte_of(list, whole(n));
     if (over(n))
         return stopped(ends);
     if (n == 0)
@@ -258,7 +248,7 @@ static size_t next_end(size_t n)
     unsigned place = whole(n);
     if (fault == 0 || (place == items && fault != NOWHERE))
         return fault + 1;
-    return place < items ? byte_of(place + 1) : SIZE_MAX;
+    return place < items ? byte_of(list, place + 1) : SIZE_MAX;
 }
 
 static void compare(void)
@@ -302,7 +292,7 @@ static void piece(size_t n)
 /* The end notice behind what has come. */
 static void finish(void)
 {
-    uint8_t number = at == byte_of(whole(at)) ? KUTHBAREEN_DONE : KUTHBAREEN_BAD_SCRIPT;
+    uint8_t number = at == byte_of(list, whole(at)) ? KUTHBAREEN_DONE : KUTHBAREEN_BAD_SCRIPT;
     if (over(at))
         number = ends;
     notice(number);

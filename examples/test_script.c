@@ -16,16 +16,6 @@ static board ours, theirs, spare;
 static item list[ITEMS];
 static uint8_t script[SCRIPT_SIZE];
 
-/* Where an item of the list begins in the script; for their number, where the script ends. */
-static size_t byte_of(unsigned place)
-{
-    size_t at = KUTHBAREEN_FIRST_ITEM;
-    unsigned i;
-    for (i = 0; i < place; i++)
-        at += size_of(list[i]);
-    return at;
-}
-
 static kuthbareen_item_answer step(board *b, size_t size, size_t at)
 {
     return kuthbareen_script_item(&b->chip, b->lent.vram, lengths.vram, cartridge, lengths.cartridge, ram, lengths.ram,
@@ -109,7 +99,7 @@ static unsigned as_plain_calls(bool pending, unsigned items)
         number = a.number;
         expect("number of an item", b.number, number);
         expect("result of an item", b.result, a.result);
-        at = number == KUTHBAREEN_DONE ? byte_of(place + 1) : byte_of(place);
+        at = number == KUTHBAREEN_DONE ? byte_of(list, place + 1) : byte_of(list, place);
         expect("next byte", b.next, at);
     }
     same_boards("item by item", &ours, &theirs);
@@ -128,9 +118,9 @@ static void cut(unsigned items)
     unsigned place = 0;
     refused("nothing at all", false, 0, KUTHBAREEN_BAD_SCRIPT, 0);
     for (at = KUTHBAREEN_FIRST_ITEM; at <= size; at++) {
-        if (at == byte_of(place + 1) && place < items)
+        if (at == byte_of(list, place + 1) && place < items)
             place++;
-        if (at == byte_of(place)) {
+        if (at == byte_of(list, place)) {
             judged("whole items", at % 2, at, place);
             expect("no item at the end", step(&ours, at, at).number, KUTHBAREEN_BAD_SCRIPT);
         } else {
@@ -145,9 +135,9 @@ static void changed(unsigned items)
     size_t size = written(items), at;
     unsigned place, bit;
     for (place = 0; place < items; place++)
-        for (at = byte_of(place); at < byte_of(place + 1); at++)
+        for (at = byte_of(list, place); at < byte_of(list, place + 1); at++)
             for (bit = 0; bit < 8; bit++) {
-                size_t offset = at - byte_of(place);
+                size_t offset = at - byte_of(list, place);
                 item kept = list[place], other = kept;
                 script[at] ^= (uint8_t)(1 << bit);
                 if (offset == 2)

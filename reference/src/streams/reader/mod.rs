@@ -10,8 +10,8 @@ mod refused;
 mod stopped;
 
 use super::script::items::{any_item, done};
-use super::script::{self, some_items, write, HELD};
-use super::{dma, drawing, tape, Maker};
+use super::script::{self, beside_the_tape, some_items, write, HELD};
+use super::{dma, drawing, Maker};
 use crate::replay::{CARTRIDGE, PIXELS, SCRIPT, WORK_RAM};
 use crate::script::reader::Reader;
 use crate::script::Item;
@@ -40,7 +40,7 @@ fn episode(maker: &mut Maker) {
         112..=115 => cuts::ends_of_the_script(maker),
         116 => long(maker),
         117 | 118 => beside_a_run(maker),
-        _ => beside_the_tape(maker),
+        _ => never_recorded(maker),
     }
     if !maker.once_in(4) {
         stopped::after(maker);
@@ -152,33 +152,15 @@ fn beside_a_run(maker: &mut Maker) {
     deliver(maker, cut, u32::MAX);
 }
 
-/// The calls of a reader are never recorded, whether the tape has room or not. Recorded calls lie
-/// around them, and a step back goes over those alone.
-fn beside_the_tape(maker: &mut Maker) {
-    let recorded = maker.machine.recorded;
-    if tape::capacity(maker) < maker.machine.count.saturating_add(100) {
-        tape::rewind(maker);
-    }
-    maker.recorded(true);
-    maker.frame();
-    maker.status();
-    let (count, no_room) = (maker.machine.count, maker.once_in(2));
-    if no_room {
-        let wrong = tape::capacity(maker) + maker.below(2);
-        maker.count(wrong);
-    }
-    match maker.below(6) {
+/// The calls of a reader are never recorded.
+fn never_recorded(maker: &mut Maker) {
+    beside_the_tape(maker, |maker| match maker.below(6) {
         0 => refused::episode(maker),
         1 => missing::episode(maker),
         2 => faulty::episode(maker),
         3 => stopped::ended(maker),
         _ => whole(maker),
-    }
-    if no_room {
-        maker.count(count);
-    }
-    tape::back(maker);
-    maker.recorded(recorded);
+    });
 }
 
 /// Sets bytes of the script from its first one on, and lends it up to a few more at most.

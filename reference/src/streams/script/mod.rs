@@ -39,7 +39,7 @@ pub fn episode(maker: &mut Maker) {
         31..=35 => rooms::episode(maker),
         36..=38 => no_items(maker),
         39 => halves(maker),
-        40 | 41 => beside_the_tape(maker),
+        40 | 41 => never_recorded(maker),
         _ => missing::episode(maker),
     }
 }
@@ -152,9 +152,20 @@ fn no_items(maker: &mut Maker) {
     maker.calm();
 }
 
-/// A script is never recorded, whether the tape has room or not. Recorded calls lie around it, and
-/// a step back goes over those alone.
-fn beside_the_tape(maker: &mut Maker) {
+/// A script is never recorded.
+fn never_recorded(maker: &mut Maker) {
+    beside_the_tape(maker, |maker| {
+        if maker.once_in(3) {
+            stopped::episode(maker);
+        } else {
+            whole(maker);
+        }
+    });
+}
+
+/// Calls that are never recorded, whether the tape has room or not. Recorded calls lie around them,
+/// and a step back goes over those alone.
+pub fn beside_the_tape(maker: &mut Maker, calls: impl FnOnce(&mut Maker)) {
     let recorded = maker.machine.recorded;
     if tape::capacity(maker) < maker.machine.count.saturating_add(100) {
         tape::rewind(maker);
@@ -167,11 +178,7 @@ fn beside_the_tape(maker: &mut Maker) {
         let wrong = tape::capacity(maker) + maker.below(2);
         maker.count(wrong);
     }
-    if maker.once_in(3) {
-        stopped::episode(maker);
-    } else {
-        whole(maker);
-    }
+    calls(maker);
     if no_room {
         maker.count(count);
     }
