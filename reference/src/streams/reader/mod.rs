@@ -11,21 +11,14 @@ mod stopped;
 
 use super::script::items::{any_item, done};
 use super::script::{self, beside_the_tape, some_items, write, HELD};
-use super::{dma, drawing, Maker};
-use crate::replay::{CARTRIDGE, PIXELS, SCRIPT, WORK_RAM};
+use super::{dma, Maker};
+use crate::replay::SCRIPT;
 use crate::script::reader::Reader;
 use crate::script::Item;
 use cuts::bring;
 
 pub fn fill(maker: &mut Maker) {
-    for buffer in [PIXELS, WORK_RAM, CARTRIDGE] {
-        maker.scatter(buffer);
-    }
-    drawing::scene(maker);
-    while !maker.full() {
-        episode(maker);
-        script::between(maker);
-    }
+    script::fill_with(maker, episode);
 }
 
 /// One script that is brought, or a few that go together.

@@ -20,6 +20,11 @@ const MOST_ITEMS: usize = 40;
 pub const HELD: u32 = 16_388;
 
 pub fn fill(maker: &mut Maker) {
+    fill_with(maker, episode);
+}
+
+/// Episodes over a scene to draw and memory to move, with plain calls between them.
+pub fn fill_with(maker: &mut Maker, episode: fn(&mut Maker)) {
     for buffer in [PIXELS, WORK_RAM, CARTRIDGE] {
         maker.scatter(buffer);
     }
