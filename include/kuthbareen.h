@@ -4,8 +4,7 @@
  * tape and its count too and make the recorded calls. Link with libkuthbareen.a, which examples/build makes.
  *
  * What a caller owes:
- *   - a state comes from kuthbareen_fresh, or has every field set; its bools hold 0 or 1, as C keeps them, and so does
- *     that of a batch;
+ *   - a state comes from kuthbareen_fresh, or has every field set; its bools hold 0 or 1, as C keeps them;
  *   - a pointer with a count is that many bytes and is never NULL, also where the count is 0;
  *   - memory that a call may write (no const) overlaps nothing else that the call is lent;
  *   - the count of a tape is 0 at first, and then the one that the last call on this tape gave; between two such calls
@@ -24,25 +23,24 @@
 extern "C" {
 #endif
 
-/* The numbers a call may answer; 9, 13 and 14 are never given. Where several would do, a call answers the first of
- * 1, 2, 11, 12, 3, 10, 8, 5, 4, 15, 7, 6. */
+/* The numbers a call may answer; 9 is never given. Where several would do, a call answers the first of 1, 2, 11, 12, 3,
+ * 10, 8, 5, 4, 7, 6. */
 enum {
-    KUTHBAREEN_DONE = 0,              /* the call was made */
-    KUTHBAREEN_BAD_STATE = 1,         /* the state is not GOOD, or a reader is outside its ranges */
-    KUTHBAREEN_BAD_BUFFER = 2,        /* a buffer has a wrong size */
-    KUTHBAREEN_BUSY = 3,              /* DMA is at work */
-    KUTHBAREEN_NOT_MODELLED = 4,      /* the registers ask for what is not modelled, or a line begins with PAL set */
-    KUTHBAREEN_NO_SUCH_PLACE = 5,     /* no such line, pattern or row */
-    KUTHBAREEN_TAPE_FULL = 6,         /* fewer free records than steps to be made */
-    KUTHBAREEN_SOURCE_NOT_LENT = 7,   /* a word to be moved lies in no lent memory */
-    KUTHBAREEN_BAD_RECORD = 8,        /* a record of the tape breaks the layout */
-    KUTHBAREEN_NOTHING_THERE = 10,    /* a step back of more than the count, or a level that is not offered */
-    KUTHBAREEN_BAD_SCRIPT = 11,       /* a script is not well formed, or no whole item begins at the byte */
-    KUTHBAREEN_MISSING_REGISTER = 12, /* a script writes a register that there is not, 24 to 31 */
-    KUTHBAREEN_PAST_LIMIT = 15        /* a total or a place of a batch would be above KUTHBAREEN_LIMIT */
+    KUTHBAREEN_DONE = 0,             /* the call was made */
+    KUTHBAREEN_BAD_STATE = 1,        /* the state is not GOOD, or a reader is outside its ranges */
+    KUTHBAREEN_BAD_BUFFER = 2,       /* a buffer has a wrong size */
+    KUTHBAREEN_BUSY = 3,             /* DMA is at work */
+    KUTHBAREEN_NOT_MODELLED = 4,     /* the registers ask for what is not modelled, or a line begins with PAL set */
+    KUTHBAREEN_NO_SUCH_PLACE = 5,    /* no such line, pattern or row */
+    KUTHBAREEN_TAPE_FULL = 6,        /* fewer free records than steps to be made */
+    KUTHBAREEN_SOURCE_NOT_LENT = 7,  /* a word to be moved lies in no lent memory */
+    KUTHBAREEN_BAD_RECORD = 8,       /* a record of the tape breaks the layout */
+    KUTHBAREEN_NOTHING_THERE = 10,   /* a step back of more than the count, or a level that is not offered */
+    KUTHBAREEN_BAD_SCRIPT = 11,      /* a script is not well formed, or no whole item begins at the byte */
+    KUTHBAREEN_MISSING_REGISTER = 12 /* a script writes a register that there is not, 24 to 31 */
 };
 
-/* The sizes that calls ask for, in bytes; that of a line is also that of a capture. */
+/* The sizes that calls ask for, in bytes. */
 enum {
     KUTHBAREEN_VRAM_SIZE = 65536,
     KUTHBAREEN_RAM_SIZE = 65536,
@@ -66,9 +64,6 @@ enum {
     KUTHBAREEN_HALF = 64,
     KUTHBAREEN_DOUBLE = 128
 };
-
-/* The most that a total or a place of a batch can be. */
-#define KUTHBAREEN_LIMIT 4294967295u
 
 /* A script is the version and its items, one after the other. An item is a length of two bytes, a kind and a content,
  * upper byte first; the kinds are these, and the first item begins at byte KUTHBAREEN_FIRST_ITEM. */
@@ -191,35 +186,6 @@ typedef struct {
     uint8_t number;           /* KUTHBAREEN_DONE where whole items have come; else why the reader is stopped */
     kuthbareen_reader reader; /* stopped, if it was in its ranges */
 } kuthbareen_end_answer;
-
-/* What a capture that is judged gives back. */
-typedef struct {
-    uint8_t number;  /* the one that kuthbareen_line would answer with the capture as its pixels */
-    bool equal;      /* whether no visible column differs; false where it was refused */
-    uint32_t column; /* the first visible column that differs, 0 where there is none */
-} kuthbareen_judgement;
-
-/* The line of a batch with the most differing pixels, the earliest of them if there are several. */
-typedef struct {
-    bool there;         /* whether there is one; if not, the numbers stand for nothing */
-    uint32_t place;     /* among the lines judged, from 0 */
-    uint32_t differing; /* its differing pixels */
-} kuthbareen_worst;
-
-/* The report on captures that were judged. It comes from kuthbareen_empty_batch, and may hold any other numbers too. */
-typedef struct {
-    uint32_t lines;         /* the lines judged */
-    uint32_t equal;         /* those of them that are equal */
-    uint32_t differing;     /* their differing pixels */
-    uint32_t visible;       /* their visible pixels, 320 or 256 a line */
-    kuthbareen_worst worst; /* the worst line */
-} kuthbareen_batch;
-
-/* What a line that is added and batches that are joined give back. */
-typedef struct {
-    uint8_t number;         /* one of the numbers above */
-    kuthbareen_batch batch; /* for the next call; where it was refused, the batch, or the first of two, as it came */
-} kuthbareen_batch_answer;
 
 /* A fresh state: all zero but for the line, which is KUTHBAREEN_LAST_LINE, and PAL, which is as asked. */
 kuthbareen_state kuthbareen_fresh(bool pal);
@@ -353,24 +319,6 @@ kuthbareen_delivery kuthbareen_deliver(kuthbareen_state *state, uint8_t *vram, s
 /* Tells a reader that no more bytes come. "The end notice stops a reader: in stage 1 with 0, in stages 0 and 2 to 6
  * with 11." */
 kuthbareen_end_answer kuthbareen_end_notice(kuthbareen_reader reader);
-
-/* Judges a capture, a line as something else drew it, against a line of the screen. The pixel bytes of the visible
- * width are compared whole, with their intensity; the bytes beyond it are not looked at. State, VRAM and capture stay.
- * used_up decides what is masked, so it must stand as it did when the captured line began. */
-kuthbareen_judgement kuthbareen_judge_line(const kuthbareen_state *state, const uint8_t *vram, size_t vram_size,
-                                           uint32_t line, const uint8_t *capture, size_t capture_size);
-
-/* Judges a capture and adds it to a batch: its place there is the lines judged before it. One that is refused, by
- * kuthbareen_judge_line's number or by KUTHBAREEN_PAST_LIMIT, is not counted. */
-kuthbareen_batch_answer kuthbareen_add_line(const kuthbareen_state *state, const uint8_t *vram, size_t vram_size,
-                                            uint32_t line, const uint8_t *capture, size_t capture_size,
-                                            kuthbareen_batch batch);
-
-/* A batch of no lines, all zero. */
-kuthbareen_batch kuthbareen_empty_batch(void);
-
-/* Joins two batches: the places of the second's lines are moved up by the lines of the first. */
-kuthbareen_batch_answer kuthbareen_join_batches(kuthbareen_batch first, kuthbareen_batch second);
 
 /* The parts of a colour word, given register 0: 256 x blue + 16 x green + red, each 0 to 7. Never refused. */
 uint32_t kuthbareen_colour_parts(uint16_t word, uint8_t register0);

@@ -1,4 +1,4 @@
-//! The numbers a call may answer (definition, Numbers a call may answer); 9, 13, 14 are not used.
+//! The numbers a call may answer (definition, Numbers a call may answer); 9 is not used.
 
 pub type Answer = u8;
 
@@ -14,7 +14,6 @@ pub const BAD_RECORD: Answer = 8;
 pub const NOTHING_THERE: Answer = 10;
 pub const BAD_SCRIPT: Answer = 11;
 pub const MISSING_REGISTER: Answer = 12;
-pub const PAST_THE_LIMIT: Answer = 15;
 
 /// An accepted call gives its result, a refused one its number.
 pub type Reply = Result<u32, Answer>;

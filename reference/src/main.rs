@@ -10,13 +10,9 @@
 
 mod answer;
 #[cfg(test)]
-mod batches;
-#[cfg(test)]
 mod bench;
 mod book;
 mod calls;
-#[cfg(test)]
-mod captures;
 mod cells;
 mod check;
 mod cover;
@@ -30,12 +26,8 @@ mod equals;
 mod flags;
 #[cfg(test)]
 mod frames;
-mod held;
 #[cfg(test)]
 mod intensities;
-#[cfg(test)]
-mod joins;
-mod judge;
 #[cfg(test)]
 mod longest;
 #[cfg(test)]
@@ -74,7 +66,7 @@ const USAGE: &str = "usage: reference replay [--book] < stream
        reference cover STREAM ..
        reference script < script
        reference scripts SEED COUNT DIRECTORY
-kinds: ports dma refusals tape timing drawing mix script reader judge";
+kinds: ports dma refusals tape timing drawing mix script reader";
 
 fn main() -> ExitCode {
     let words: Vec<String> = std::env::args().skip(1).collect();

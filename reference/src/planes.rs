@@ -52,11 +52,15 @@ pub struct View<'a> {
 impl View<'_> {
     /// 40 cells wide, or else 32?
     pub fn wide(&self) -> bool {
-        wide(self.state)
+        self.state.registers[12] & 1 != 0
     }
 
     pub fn width(&self) -> usize {
-        width(self.state)
+        if self.wide() {
+            320
+        } else {
+            256
+        }
     }
 
     /// The masked bits of a register as the upper bits of a table's address.
@@ -72,19 +76,6 @@ impl View<'_> {
     /// A byte of a table; no table passes FFFFh, so a place above it stops the program.
     pub fn byte(&self, at: usize) -> u8 {
         self.vram[at]
-    }
-}
-
-fn wide(state: &State) -> bool {
-    state.registers[12] & 1 != 0
-}
-
-/// The columns of a line that are seen.
-pub fn width(state: &State) -> usize {
-    if wide(state) {
-        320
-    } else {
-        256
     }
 }
 

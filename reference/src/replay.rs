@@ -3,8 +3,6 @@
 use crate::answer::{numbers, Answer, Reply};
 use crate::calls;
 use crate::dma::Memories;
-use crate::held::HeldBatch;
-use crate::judge::{self, Verdict};
 use crate::ports::doubled;
 use crate::script::judge::Report;
 use crate::script::reader::{Delivery, Reader};
@@ -25,10 +23,6 @@ pub const CARTRIDGE: u16 = 3;
 pub const TAPE: u16 = 4;
 pub const ROW: u16 = 5;
 pub const SCRIPT: u16 = 6;
-pub const CAPTURE: u16 = 7;
-
-/// The result of op 25 for a capture that is equal; no line has a column of this number.
-pub const EQUAL: u32 = 512;
 
 #[derive(Clone, Copy, Debug, PartialEq, Eq)]
 pub struct Command {
@@ -52,7 +46,7 @@ impl Command {
 
     /// Does it call the model? An item of no kind is not written and prints nothing.
     pub fn calls(self) -> bool {
-        matches!(self.op, 1..=17 | 20 | 22 | 25..=27) || self.item().is_some()
+        matches!(self.op, 1..=17 | 20 | 22) || self.item().is_some()
     }
 
     /// The item that op 18 writes.
@@ -64,11 +58,6 @@ impl Command {
     pub fn delivered(self, script: &[u8]) -> &[u8] {
         let from = script.get(usize::from(self.b)..).unwrap_or(&[]);
         from.get(..self.c as usize).unwrap_or(from)
-    }
-
-    /// Does it print a line and change nothing?
-    pub fn only_tells(self) -> bool {
-        matches!(self.op, 29 | 48)
     }
 
     /// Has its call a recorded form?
@@ -112,7 +101,6 @@ impl Buffer {
 pub struct Machine {
     pub state: State,
     pub reader: Reader,
-    pub batch: HeldBatch,
     pub vram: Buffer,
     pub pixels: Buffer,
     pub work_ram: Buffer,
@@ -120,7 +108,6 @@ pub struct Machine {
     pub tape: Buffer,
     pub row: Buffer,
     pub script: Buffer,
-    pub capture: Buffer,
     pub count: u32,
     pub recorded: bool,
 }
@@ -130,7 +117,6 @@ impl Machine {
         Machine {
             state: State::fresh(false),
             reader: Reader::default(),
-            batch: HeldBatch::default(),
             vram: Buffer::zero(65_540, 65_536),
             pixels: Buffer::zero(324, 320),
             work_ram: Buffer::zero(65_540, 65_536),
@@ -138,7 +124,6 @@ impl Machine {
             tape: Buffer::zero(131_080, 131_072),
             row: Buffer::zero(12, 8),
             script: Buffer::zero(16_388, 0),
-            capture: Buffer::zero(324, 320),
             count: 0,
             recorded: false,
         }
@@ -150,11 +135,10 @@ impl Machine {
     }
 
     /// Does a command and gives the lines it prints: one for a call, none for a set-up, and for a
-    /// delivery as many more as it makes calls. The batch and the digests are told in a line each.
+    /// delivery as many more as it makes calls.
     pub fn apply(&mut self, command: &Command) -> Vec<String> {
         match command.op {
             20 => self.delivery_lines(command),
-            29 => vec![self.batch.line()],
             48 => vec![self.digest_line()],
             _ if command.calls() => vec![self.call_line(command)],
             _ => {
@@ -208,7 +192,7 @@ impl Machine {
         (Lent { state: &mut self.state, vram, memories, pixels }, self.script.lent())
     }
 
-    /// Ops 1 to 16, 18, and 25 to 27.
+    /// Ops 1 to 16, and 18.
     pub fn call(&mut self, command: &Command) -> Reply {
         if let Some(item) = command.item() {
             return script::write_item(self.script.lent_mut(), command.c as usize, item);
@@ -226,34 +210,8 @@ impl Machine {
             11 => calls::pattern_row(self.vram.lent(), self.row.lent_mut(), command.b, command.c),
             12 => calls::colour_parts(command.b, command.a),
             15 => calls::v_counter_read(&self.state),
-            25 => self.judge(command.c),
-            26 => self.add_line(command.c),
-            27 => self.join_batch(),
             _ => calls::level_read(&self.state),
         }
-    }
-
-    /// Op 25. Neither it nor the next two ask for the pixel buffer or the tape.
-    fn judge(&self, line: u32) -> Reply {
-        let verdict = judge::judge(&self.state, self.vram.lent(), line, self.capture.lent())?;
-        Ok(match verdict {
-            Verdict::Equal => EQUAL,
-            Verdict::Differs(column) => column,
-        })
-    }
-
-    /// Op 26: the lines judged, with this one.
-    fn add_line(&mut self, line: u32) -> Reply {
-        let batch = &mut self.batch.batch;
-        batch.add(&self.state, self.vram.lent(), line, self.capture.lent())?;
-        Ok(batch.lines)
-    }
-
-    /// Op 27: the batch with its own lines once more behind it.
-    fn join_batch(&mut self) -> Reply {
-        let batch = &mut self.batch.batch;
-        *batch = batch.join(batch)?;
-        Ok(batch.lines)
     }
 
     fn with_tape(&mut self) -> (&mut State, &mut [u8], Tape<'_>) {
@@ -291,18 +249,15 @@ impl Machine {
         }
     }
 
-    /// Ops 19, 28 and 32 to 40. The state is made anew without the reader and the batch, and the
-    /// reader without the state.
+    /// Ops 19 and 32 to 39. The state is made anew without the reader, and the reader without it.
     fn set_up(&mut self, command: &Command) {
         match command.op {
             19 => self.reader = Reader::default(),
-            28 => self.batch.set(command.a, command.c),
             32 => set_field(&mut self.state, command),
             33 => self.state = State::fresh(command.a % 2 == 1),
             34..=36 | 39 => self.set_buffer(command),
             37 => self.count = command.c,
             38 => self.recorded = command.a % 2 == 1,
-            40 => self.capture.bytes.copy_from_slice(&self.pixels.bytes),
             _ => (),
         }
     }
@@ -333,7 +288,6 @@ impl Machine {
             TAPE => Some(&mut self.tape),
             ROW => Some(&mut self.row),
             SCRIPT => Some(&mut self.script),
-            CAPTURE => Some(&mut self.capture),
             _ => None,
         }
     }

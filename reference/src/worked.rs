@@ -534,17 +534,14 @@ fn kinds_keep_to_their_ops() {
             for command in stream(seed, kind, 400) {
                 let plain = matches!(command.op, 1..=7 | 9 | 12..=16 | 32..=36 | 39 | 48);
                 let of_reader = matches!(command.op, 19..=22);
-                let of_captures = matches!(command.op, 25..=29 | 40);
-                let of_scripts = of_reader || matches!(command.op, 17 | 18);
                 let fits = match kind {
                     Kind::Ports | Kind::Dma => plain,
                     Kind::Refusals => plain || command.op == 8,
                     Kind::Drawing => plain || matches!(command.op, 8 | 11),
-                    Kind::Tape | Kind::Timing => !of_captures && !of_scripts && command.op != 11,
-                    Kind::Script => !of_captures && !of_reader && command.op != 11,
-                    Kind::Mix => !of_captures && !of_reader,
-                    Kind::Reader => !of_captures && command.op != 11,
-                    Kind::Judge => !of_scripts && command.op != 11,
+                    Kind::Tape | Kind::Timing => !of_reader && !matches!(command.op, 11 | 17 | 18),
+                    Kind::Script => !of_reader && command.op != 11,
+                    Kind::Mix => !of_reader,
+                    Kind::Reader => command.op != 11,
                 };
                 assert!(fits, "{kind:?} {seed}: {command:?}");
             }
@@ -557,7 +554,7 @@ fn kinds_keep_to_their_ops() {
 fn any_commands_are_borne() {
     let mut checker = Checker::new();
     let mixed = (0..3).map(|seed| (seed, Kind::Mix));
-    for (seed, kind) in mixed.chain([(3, Kind::Script), (4, Kind::Reader), (5, Kind::Judge)]) {
+    for (seed, kind) in mixed.chain([(3, Kind::Script), (4, Kind::Reader)]) {
         for command in stream(seed, kind, 400) {
             let turned = Command {
                 c: command.c.rotate_left(7) ^ u32::from(command.b),

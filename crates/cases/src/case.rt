@@ -15,8 +15,9 @@ pub(crate) struct Case {
     // where the group of items begins that is repeated, and how often it is still to be done
     pub group: usize,
     pub times: u32,
-    // the numbers of the last line; of a call its number and result are the second and the third
-    pub numbers: [u32; 8],
+    // the last call's number and result
+    pub number: u32,
+    pub result: u32,
     // the digests of the state and of VRAM when they were marked
     pub state_marked: u32,
     pub vram_marked: u32,
@@ -30,7 +31,8 @@ pub(crate) fn beginning() -> Case {
         name_end: 0,
         group: 0,
         times: 0,
-        numbers: [0; 8],
+        number: 0,
+        result: 0,
         state_marked: 0,
         vram_marked: 0,
     }
@@ -79,8 +81,8 @@ pub(crate) fn answered(c: Case, t: Turn, at: usize) -> Case {
     next.machine = m;
     next.at = at;
     if 0 < line.length {
-        let numbers = line.numbers;
-        next.numbers = numbers;
+        next.number = line.numbers[1];
+        next.result = line.numbers[2];
     }
     next
 }
@@ -88,8 +90,8 @@ pub(crate) fn answered(c: Case, t: Turn, at: usize) -> Case {
 // The case after a script was judged: the number and the place.
 pub(crate) fn judged(c: Case, j: Judged) -> Case {
     let mut next = c;
-    next.numbers[1] = j.number as u32;
-    next.numbers[2] = (j.place % 4_294_967_296) as u32;
+    next.number = j.number as u32;
+    next.result = (j.place % 4_294_967_296) as u32;
     next
 }
 

@@ -46,10 +46,14 @@ fn repeat(c: Case, text: &[u8]) -> Case {
     group_begun(c, times.end, times.value)
 }
 
-// The op of a letter: each letter stands at its op, from 1 on, and `~` at those that do nothing.
+// The op of a letter: 1 to 22, and 32 to 39.
 fn op_of(letter: u8) -> u8 {
-    let i = place_of(b"cCdDrsulfkpxiavoqw@y~e~~JAWFB~~!zbgnmthL", letter);
-    ((i % 64) as u8) + 1
+    let i = place_of(b"cCdDrsulfkpxiavoqw@y~e!zbgnmth", letter);
+    if i < 22 {
+        (i as u8) + 1
+    } else {
+        ((i % 32) as u8) + 10
+    }
 }
 
 // A command, and where the text goes on after it.

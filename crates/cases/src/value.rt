@@ -64,18 +64,12 @@ fn memory_value(c: Case, vram: &[u8], which: u32, i: u32) -> u32 {
 // The last call's answer, whether the state is GOOD, and whether it is as it was marked.
 fn answer_value(c: Case, which: u32) -> u32 {
     match which {
-        13 => c.numbers[1],
-        14 => c.numbers[2],
+        13 => c.number,
+        14 => c.result,
         15 => c.machine.count,
         18 => truth(good(c.machine.state)),
         _ => truth(state(c.machine.state) == c.state_marked),
     }
-}
-
-// A number of the last line.
-fn printed(c: Case, i: u32) -> u32 {
-    let at = (i % 8) as usize;
-    c.numbers[at]
 }
 
 pub(crate) fn value(c: Case, vram: &[u8], which: u32, i: u32) -> u32 {
@@ -84,7 +78,6 @@ pub(crate) fn value(c: Case, vram: &[u8], which: u32, i: u32) -> u32 {
         16 | 17 | 20 => memory_value(c, vram, which, i),
         21..=24 => timing_value(c.machine.state.control.timing, which),
         25 => truth(c.machine.state.control.flags.used_up),
-        26 => printed(c, i),
         _ => answer_value(c, which),
     }
 }

@@ -4,11 +4,11 @@ ghost use Rattle.std.specs.Prelude.{◌≤◌};
 use libc::STDOUT_FILENO;
 use stream::line::Line;
 
-// How many numbers a line shows; it has room for eight.
+// How many numbers a line shows; it has room for seven.
 fn shown(length: usize) -> usize
-    ensures { result ≤ 8 }
+    ensures { result ≤ 7 }
 {
-    if length < 8 { length } else { 8 }
+    if length < 7 { length } else { 7 }
 }
 
 // A space after each number but the last, which ends the line.

@@ -93,7 +93,6 @@ pub(crate) fn digest_line(m: Machine, vram: &[u8], tape: &[u8]) -> Line {
             bytes(0, &m.row),
             bytes(0, tape),
             m.count,
-            0,
         ],
         length: 7,
     }

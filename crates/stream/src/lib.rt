@@ -4,7 +4,6 @@ pub mod command;
 pub mod digest;
 pub mod fields;
 pub mod generator;
-pub mod judge;
 pub mod line;
 pub mod machine;
 pub mod picture;

@@ -1,8 +1,7 @@
-// What is held between commands beside the large buffers: the state, the pixel and row buffers and the capture, the
-// lengths at which each buffer is lent, the tape's count, whether calls are recorded, the reader and the batch.
+// What is held between commands beside the large buffers: the state, the pixel and row buffers, the lengths at which
+// each buffer is lent, the tape's count, whether calls are recorded, and the reader.
 ghost use Rattle.std.specs.Prelude.{◌≤◌, min, ◌≡◌};
 
-use vdp_judge::batch::{Batch, empty};
 use vdp_reader::reader::{Reader, started};
 use vdp_state::fresh::fresh;
 use vdp_state::state::State;
@@ -22,9 +21,7 @@ pub const ROW: usize = 5;
 
 pub const SCRIPT: usize = 6;
 
-pub const CAPTURE: usize = 7;
-
-pub const BUFFERS: usize = 8;
+pub const BUFFERS: usize = 7;
 
 // The bytes held of each: a few more than a call wants, so that a stream can also lend a buffer too long.
 pub const VRAM_HELD: usize = 65540;
@@ -41,19 +38,15 @@ pub const ROW_HELD: usize = 12;
 
 pub const SCRIPT_HELD: usize = 16388;
 
-pub const CAPTURE_HELD: usize = 324;
-
 #[derive(Drop)]
 pub struct Machine {
     pub state: State,
     pub pixels: [u8; PIXELS_HELD],
     pub row: [u8; ROW_HELD],
-    pub capture: [u8; CAPTURE_HELD],
-    pub lengths: [usize; 8],
+    pub lengths: [usize; 7],
     pub count: u32,
     pub recorded: bool,
     pub reader: Reader,
-    pub batch: Batch,
     // whether a delivery is under way, where it goes on in the script, and the calls that it has made
     pub delivering: bool,
     pub at: usize,
@@ -66,12 +59,10 @@ pub fn start() -> Machine {
         state: fresh(false),
         pixels: [0; PIXELS_HELD],
         row: [0; ROW_HELD],
-        capture: [0; CAPTURE_HELD],
-        lengths: [65536, 320, 65536, 131_072, 131_072, 8, 0, 320],
+        lengths: [65536, 320, 65536, 131_072, 131_072, 8, 0],
         count: 0,
         recorded: false,
         reader: started(),
-        batch: empty(),
         delivering: false,
         at: 0,
         calls: 0,

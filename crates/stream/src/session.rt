@@ -2,7 +2,6 @@
 use crate::calls::{chip_call, timing_read};
 use crate::command::Command;
 use crate::digest::digest_line;
-use crate::judge::capture_turn;
 use crate::machine::{CARTRIDGE, Machine, SCRIPT, TAPE, VRAM, WORK_RAM, lent};
 use crate::picture::{line_turn, parts_turn, row_turn};
 use crate::reader::{deliver_turn, end_turn, start_turn};
@@ -105,7 +104,6 @@ pub fn turn(
         18 => write_turn(m, k, script),
         19 => start_turn(m),
         22 => end_turn(m),
-        25..=29 | 40 => capture_turn(m, k, vram),
         _ => {
             set_script(k, script);
             set_up(m, k, vram, ram, cartridge, tape)

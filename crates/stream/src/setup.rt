@@ -3,7 +3,7 @@ use crate::command::Command;
 use crate::fields::set_field;
 use crate::generator::scatter;
 use crate::machine::{
-    BUFFERS, CAPTURE, CARTRIDGE, Machine, PIXELS, ROW, SCRIPT, TAPE, VRAM, WORK_RAM, with_state,
+    BUFFERS, CARTRIDGE, Machine, PIXELS, ROW, SCRIPT, TAPE, VRAM, WORK_RAM, with_state,
 };
 use vdp_state::fresh::fresh;
 
@@ -79,17 +79,6 @@ fn set_small_buffers(m: Machine, k: Command) -> Machine {
     next
 }
 
-// What a command does to the capture.
-fn set_capture(m: Machine, k: Command) -> Machine {
-    let mut next = m;
-    let mut capture = m.capture;
-    if k.b as usize == CAPTURE {
-        set_bytes(k, &mut capture);
-        next.capture = capture;
-    }
-    next
-}
-
 // Op 36. The length is cut to the bytes held where the buffer is lent.
 fn set_length(m: Machine, b: u16, c: u32) -> Machine {
     let i = b as usize;
@@ -119,6 +108,6 @@ pub(crate) fn set_machine(m: Machine, k: Command) -> Machine {
         33 => with_state(m, fresh(k.a % 2 == 1)),
         36 => set_length(m, k.b, k.c),
         37..=38 => set_tape(m, k),
-        _ => set_capture(set_small_buffers(m, k), k),
+        _ => set_small_buffers(m, k),
     }
 }

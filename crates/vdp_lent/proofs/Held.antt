@@ -1,4 +1,4 @@
--- The structs of the thin functions as the laws of the crate `lent` take them: `State`, which is lent; `Answer`, `TapeAnswer`, `ScriptAnswer`, `ItemAnswer` and `Delivery`, with which a call by value answers; `LentAnswer` and its like, which a thin function returns; `Judgement` and `BatchAnswer`, which one that only reads the state returns; and `Reader` and `Batch`, which are given by value.
+-- The structs of the thin functions as the laws of the crate `lent` take them: `State`, which is lent; `Answer`, `TapeAnswer`, `ScriptAnswer`, `ItemAnswer` and `Delivery`, with which a call by value answers; `LentAnswer` and its like, which a thin function returns; and `Reader`, which is given by value.
 --     answer       the form of a plain call: the answer's state goes back, and its number and result are given
 --     tape_answer  the form of a recorded call and of step back: the count is given too
 --     script_answer, item_answer_lem, delivery  the forms of a script that is run, of one of its items, and of bytes that are delivered
@@ -21,12 +21,6 @@ use Rattle.vdp_reader.specs.contracts.reader.Reader as K
 use Rattle.vdp_reader.proofs.reader.Reader.TheLaws as K'
 use Rattle.vdp_reader.specs.contracts.deliver.Delivery as D
 use Rattle.vdp_reader.proofs.deliver.Delivery.TheLaws as D'
-use Rattle.vdp_judge.specs.contracts.judge.Judgement as M
-use Rattle.vdp_judge.proofs.judge.Judgement.TheLaws as M'
-use Rattle.vdp_judge.specs.contracts.batch.Batch as N
-use Rattle.vdp_judge.proofs.batch.Batch.TheLaws as N'
-use Rattle.vdp_judge.specs.contracts.batch.BatchAnswer as O
-use Rattle.vdp_judge.proofs.batch.BatchAnswer.TheLaws as O'
 use Rattle.vdp_tape.specs.contracts.recorder.TapeAnswer as R
 use Rattle.vdp_tape.proofs.recorder.TapeAnswer.TheLaws as R'
 use Rattle.vdp_lent.specs.contracts.answer.LentAnswer as B
@@ -182,12 +176,3 @@ to_delivery_given = record {
 
 abbrev pub delivery : Form
 delivery = record { S = state; Y = delivered; Z = delivery_given; back = to_delivery_state; out = to_delivery_given }
-
-abbrev pub judgement : Datum
-judgement = a_struct M.the_type M'.the_laws M'.the_plain M'.mir refl
-
-abbrev pub a_batch : Datum
-a_batch = a_struct N.the_type N'.the_laws N'.the_plain N'.mir refl
-
-abbrev pub batch_answered : Datum
-batch_answered = a_struct O.the_type O'.the_laws O'.the_plain O'.mir refl

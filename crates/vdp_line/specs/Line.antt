@@ -90,12 +90,10 @@ line_step c n =
 abbrev pub visits : Chip → ℕ → ℕ
 visits c n = cond (displayed c.state) (sprites_of c n).visits 0
 
--- the pixel byte on column x of a line; a blanked one shows "the backdrop at normal intensity", its bare index
-abbrev pub line_pixel : Chip → ℕ → ℕ → ℕ
-line_pixel c n x = cond (displayed c.state) (mixed c n (sprites_of c n).dots x) (backdrop c.state)
-
+-- a blanked line shows "the backdrop at normal intensity", its bare index
 abbrev pub line_pixels : Chip → ℕ → List ℕ → List ℕ
-line_pixels c n pixels = drawn c.state (λ x. line_pixel c n x) pixels
+line_pixels c n pixels =
+    drawn c.state (λ x. cond (displayed c.state) (mixed c n (sprites_of c n).dots x) (backdrop c.state)) pixels
 
 -- what a line leaves: its answer and the pixel buffer, which a refused line leaves untouched
 pub record LineOutcome : Type 0 where

@@ -12,7 +12,7 @@ pub(crate) fn bit(b: u8, value: u8) -> bool
     b / value % 2 == 1
 }
 
-pub fn wide(s: State) -> bool
+pub(crate) fn wide(s: State) -> bool
     ensures { result ≡ is_wide s }
 {
     bit(s.registers[12], 1)

@@ -5,7 +5,7 @@
 --     by_size        its answer and VRAM go by that length, and not by what the pixel buffer holds
 use Prim.Native.Nat.{ℕ}
 use mathlib.Core.Path.{◌≡◌, refl, sym, ap, ◌∙◌}
-use mathlib.Core.Bool.{Bool, true, false, cond, not, ◌||◌, true≢false}
+use mathlib.Core.Bool.{Bool, true, false, cond, not}
 use mathlib.Core.List.{List, [], ◌∷◌}
 use native.Mathlib.Omega.{arith}
 use borrow.Author.Tests.{eqb-true}
@@ -17,7 +17,7 @@ use Rattle.vdp_state.specs.Answer.{order, Test, gives, holds_at, first_of, first
 use Rattle.vdp_state.specs.Cell.{after, perform}
 use Rattle.vdp_state.specs.Good.{all}
 use Rattle.vdp_state.specs.State.{Chip}
-use Rattle.vdp_state.proofs.Bools.{by_cases, by_cond, both_left, both_right, either}
+use Rattle.vdp_state.proofs.Bools.{by_cond, both_left, both_right}
 use Rattle.vdp_ports.specs.Control.{control_step, control_tests}
 use Rattle.vdp_ports.specs.Data.{data_tests, data_word, data_write_step, data_read_step}
 use Rattle.vdp_ports.specs.Frame.{frame_step, frame_tests}
@@ -36,44 +36,37 @@ use Rattle.vdp_script.specs.declared.item.Item.TheVariants.{ControlWord, DataWor
 use Rattle.vdp_script.specs.Call.{ItemOutcome, item_outcome, call_item}
 use Rattle.vdp_reader.specs.Reader.{may_answer}
 
--- ---- a number picked by the order is one that the call may answer: it has no condition for 15
-abbrev known : ℕ → Bool
-known n = may_answer n || eqb n 15
-
-may_pick : (ns : List ℕ) → all known ns ≡ true → (ts : List Test) → holds_at 15 ts ≡ false → may_answer (first_of ns ts) ≡ true
-may_pick [] a ts free = refl
-may_pick (n ∷ ns) a ts free =
+-- ---- a number picked by the order is one that a call may answer
+may_pick : (ns : List ℕ) → all may_answer ns ≡ true → (ts : List Test) → may_answer (first_of ns ts) ≡ true
+may_pick [] a ts = refl
+may_pick (n ∷ ns) a ts =
     by_cond (λ (r : ℕ). may_answer r ≡ true) (holds_at n ts) n (first_of ns ts)
-    (λ holds. by_cases (may_answer n) (λ may. may)
-    (λ not.
-    let is : n ≡ 15 = eqb-true n 15 (either (may_answer n) (eqb n 15) (both_left (known n) (all known ns) a) not) in
-    absurd (true≢false (sym holds ∙ ap (λ (k : ℕ). holds_at k ts) is ∙ free))))
-    (λ fails. may_pick ns (both_right (known n) (all known ns) a) ts free)
+    (λ holds. both_left (may_answer n) (all may_answer ns) a)
+    (λ fails. may_pick ns (both_right (may_answer n) (all may_answer ns) a) ts)
 
 -- ---- what every call has
 module _ (c : Chip) (pixels : List ℕ) where
   -- its number comes from tests, and what it leaves if it is refused, and of the pixel buffer
   record Usual (o : ItemOutcome) : Type 0 where
     tests : List Test
-    free : holds_at 15 tests ≡ false
     number : o.answer.number ≡ first tests
     came : (o.answer.number ≡ 0 → ⊥) → (o.answer.state ≡ c.state) × (o.vram ≡ c.vram) × (o.pixels ≡ pixels)
     size : length o.pixels ≡ length pixels
 
   -- a call of one step
-  one_step : (ts : List Test) → holds_at 15 ts ≡ false → (t : Step) (result : ℕ) → Usual (item_outcome (answered (first ts) c.state t result) c.vram pixels)
-  one_step ts free t result =
+  one_step : (ts : List Test) (t : Step) (result : ℕ) → Usual (item_outcome (answered (first ts) c.state t result) c.vram pixels)
+  one_step ts t result =
       by_cond (λ (a : Answer). Usual (item_outcome a c.vram pixels)) (eqb (first ts) 0) _ _
-      (λ e. record { tests = ts; free = free; number = sym (eqb-true (first ts) 0 e); came = λ z. absurd (z refl); size = refl })
-      (λ e. record { tests = ts; free = free; number = refl; came = λ z. (refl, refl, refl); size = refl })
+      (λ e. record { tests = ts; number = sym (eqb-true (first ts) 0 e); came = λ z. absurd (z refl); size = refl })
+      (λ e. record { tests = ts; number = refl; came = λ z. (refl, refl, refl); size = refl })
 
   -- one that is lent VRAM
-  in_vram : (ts : List Test) → holds_at 15 ts ≡ false → (result : ℕ) (made : Chip)
+  in_vram : (ts : List Test) (result : ℕ) (made : Chip)
       → Usual (item_outcome (outcome_at (first ts) result c made).answer (outcome_at (first ts) result c made).vram pixels)
-  in_vram ts free result made =
+  in_vram ts result made =
       by_cond (λ (o : Outcome). Usual (item_outcome o.answer o.vram pixels)) (eqb (first ts) 0) _ _
-      (λ e. record { tests = ts; free = free; number = sym (eqb-true (first ts) 0 e); came = λ z. absurd (z refl); size = refl })
-      (λ e. record { tests = ts; free = free; number = refl; came = λ z. (refl, refl, refl); size = refl })
+      (λ e. record { tests = ts; number = sym (eqb-true (first ts) 0 e); came = λ z. absurd (z refl); size = refl })
+      (λ e. record { tests = ts; number = refl; came = λ z. (refl, refl, refl); size = refl })
 
   -- and a line, which draws inside 320 bytes
   drawn_size : (f : ℕ → ℕ) → length pixels ≡ 320 → length (drawn c.state f pixels) ≡ length pixels
@@ -87,26 +80,26 @@ module _ (c : Chip) (pixels : List ℕ) where
       by_cond (λ (o : LineOutcome). Usual (item_outcome o.answer c.vram o.pixels)) (eqb (line_number c n pixels) 0) _ _
       (λ e.
       let z : line_number c n pixels ≡ 0 = eqb-true (line_number c n pixels) 0 e in
-      record { tests = ts; free = refl; number = sym z; came = λ f. absurd (f refl); size = drawn_size _ (accepted c n pixels z).size })
-      (λ e. record { tests = ts; free = refl; number = refl; came = λ z. (refl, refl, refl); size = refl })
+      record { tests = ts; number = sym z; came = λ f. absurd (f refl); size = drawn_size _ (accepted c n pixels z).size })
+      (λ e. record { tests = ts; number = refl; came = λ z. (refl, refl, refl); size = refl })
 
   module _ (cartridge ram : List ℕ) where
     usual : (i : Item) → Usual (call_item i cartridge ram c pixels)
-    usual (ControlWord w) = one_step (control_tests c.state) refl (control_step c.state w) 0
-    usual (DataWord w) = in_vram (data_tests c) refl 0 (perform c (data_write_step c.state w))
-    usual DataRead = one_step (data_tests c) refl (data_read_step c.state) (data_word c)
-    usual StatusRead = one_step (status_tests c.state) refl (status_step c.state) (status_word c.state)
+    usual (ControlWord w) = one_step (control_tests c.state) (control_step c.state w) 0
+    usual (DataWord w) = in_vram (data_tests c) 0 (perform c (data_write_step c.state w))
+    usual DataRead = one_step (data_tests c) (data_read_step c.state) (data_word c)
+    usual StatusRead = one_step (status_tests c.state) (status_step c.state) (status_word c.state)
     usual (Run budget) =
-        in_vram (run_tests c cartridge ram budget) refl (units_made c.state budget) (ran cartridge ram (units_made c.state budget) c)
+        in_vram (run_tests c cartridge ram budget) (units_made c.state budget) (ran cartridge ram (units_made c.state budget) c)
     usual (Line n) = of_line n
-    usual NewFrame = one_step (frame_tests c.state) refl (frame_step c.state) 0
+    usual NewFrame = one_step (frame_tests c.state) (frame_step c.state) 0
 
     module _ (i : Item) where
       abbrev outcome : ItemOutcome
       outcome = call_item i cartridge ram c pixels
 
       pub may_answer_lem : may_answer outcome.answer.number ≡ true
-      may_answer_lem = ap may_answer (usual i).number ∙ may_pick order refl (usual i).tests (usual i).free
+      may_answer_lem = ap may_answer (usual i).number ∙ may_pick order refl (usual i).tests
 
       pub as_it_came : (outcome.answer.number ≡ 0 → ⊥) → (outcome.answer.state ≡ c.state) × (outcome.vram ≡ c.vram) × (outcome.pixels ≡ pixels)
       as_it_came = (usual i).came

@@ -22,7 +22,7 @@ stopped number = record { stage = 7; kind = 0; upper = 0; number = number }
 abbrev pub has_content : ℕ → Bool
 has_content kind = eqb kind 1 || eqb kind 2 || eqb kind 5 || eqb kind 6
 
--- "a number that an item or its call may answer: not above 12, and not 9"
+-- "a number that a call may answer: not above 12, and not 9"
 abbrev pub may_answer : ℕ → Bool
 may_answer n = leb n 12 && not (eqb n 9)
 

@@ -6,9 +6,9 @@ use Rattle.vdp_state.specs.declared.answer.Answer.{Answer}
 use Rattle.vdp_state.specs.Cell.{after, perform}
 use Rattle.vdp_state.specs.State.{Chip}
 
--- "the first of 1, 2, 11, 12, 3, 10, 8, 5, 4, 15, 7, 6 whose condition holds"
+-- "the first of 1, 2, 11, 12, 3, 10, 8, 5, 4, 7, 6 whose condition holds"
 abbrev pub order : List ℕ
-order = 1 ∷ 2 ∷ 11 ∷ 12 ∷ 3 ∷ 10 ∷ 8 ∷ 5 ∷ 4 ∷ 15 ∷ 7 ∷ 6 ∷ []
+order = 1 ∷ 2 ∷ 11 ∷ 12 ∷ 3 ∷ 10 ∷ 8 ∷ 5 ∷ 4 ∷ 7 ∷ 6 ∷ []
 
 -- a number of the table and whether its condition holds; a call lists those that have its arguments
 pub record Test : Type 0 where

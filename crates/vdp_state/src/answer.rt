@@ -1,5 +1,5 @@
-// The numbers a call may answer (definition, Numbers a call may answer) and the answers that carry them. 9, 13 and 14
-// are never given.
+// The numbers a call may answer (definition, Numbers a call may answer) and the answers that carry them. 9 is never
+// given.
 ghost use Rattle.std.specs.Prelude.{◌≡◌};
 ghost use Rattle.vdp_state.specs.Answer.{answered as answered_as, outcome, served};
 ghost use Rattle.vdp_state.specs.State.{chip};
@@ -30,8 +30,6 @@ pub const NOTHING_THERE: u8 = 10;
 pub const BAD_SCRIPT: u8 = 11;
 
 pub const MISSING_REGISTER: u8 = 12;
-
-pub const PAST_LIMIT: u8 = 15;
 
 // The number, the word read, units made or visits (else 0), and the state after the call.
 #[derive(Drop)]

@@ -1,13 +1,12 @@
 //! Which answers and rules streams meet, and which they never meet.
 //! The counts come from looking at each call from outside, before and after it; for the sprite
-//! flags, for used up, for cut runs, for frames, for the reader and for captured lines also from what
-//! the calls before it did. The calls of a script and those of a reader are counted by themselves.
+//! flags, for used up, for cut runs, for frames and for the reader also from what the calls before
+//! it did. The calls of a script and those of a reader are counted by themselves.
 
 mod columns;
 mod cuts;
 mod flags;
 mod frames;
-mod judge;
 mod lines;
 mod masking;
 mod ports;
@@ -30,13 +29,12 @@ use crate::tape::{Record, RECORD_BYTES};
 use cuts::Cuts;
 use flags::Flags;
 use frames::Frames;
-use judge::Judging;
 use reader::Reading;
 use used_up::UsedUp;
 
 /// The answers that the lines of each op may have (definition, Numbers a call may answer). Those of
 /// op 21 are the calls that a reader makes.
-const ANSWERS: [(u8, &[Answer]); 24] = [
+const ANSWERS: [(u8, &[Answer]); 21] = [
     (1, &[0, 1, 2, 3, 6]),
     (2, &[0, 1, 2, 3, 6]),
     (3, &[0, 1, 2, 3, 6]),
@@ -58,9 +56,6 @@ const ANSWERS: [(u8, &[Answer]); 24] = [
     (20, &[0, 1, 2, 3, 4, 5, 7, 11, 12]),
     (21, &[0, 1, 2, 3, 4, 5, 7]),
     (22, &[0, 1, 2, 3, 4, 5, 7, 11, 12]),
-    (25, &[0, 1, 2, 4, 5]),
-    (26, &[0, 1, 2, 4, 5, 15]),
-    (27, &[0, 15]),
 ];
 
 /// How often each answer and each rule was met.
@@ -83,9 +78,7 @@ impl Tally {
         let of_timing = [timing::rules(), refused_timing::rules()];
         let more_calls = [flags::rules(), cuts::rules(), frames::rules()];
         let of_scripts = [script::rules(), reader::rules()];
-        let of_captures = [judge::rules()];
-        let lists = [&one_call[..], &of_lines, &of_timing, &more_calls, &of_scripts, &of_captures];
-        for list in lists {
+        for list in [&one_call[..], &of_lines, &of_timing, &more_calls, &of_scripts] {
             tally.rules.extend(list.concat().into_iter().map(|rule| (rule, 0)));
         }
         tally
@@ -110,12 +103,9 @@ impl Tally {
         for command in commands {
             if command.calls() {
                 self.call(&mut machine, &mut past, command);
-            } else if command.only_tells() {
-                past.judging.told(self, &machine, command);
-            } else {
+            } else if command.op != 48 {
                 script::items::count_silent(self, &machine, command);
                 past.reading.silent(self, &machine, command);
-                past.judging.silent(self, &machine, command);
                 machine.apply(command);
                 past.set_up(command);
             }
@@ -126,7 +116,6 @@ impl Tally {
         let before = Before { machine: machine.clone(), command: *command };
         let number = self.answered(&machine.apply(command));
         past.reading.count(self, &before, machine, number);
-        past.judging.count(self, &before, machine, number);
         match command.op {
             17 => {
                 past.script(&before, machine);
@@ -137,7 +126,7 @@ impl Tally {
                 script::items::count(self, &before, number);
             }
             20 => past.script(&before, machine),
-            22 | 25..=27 => past.cuts.set_up(),
+            22 => past.cuts.set_up(),
             _ => {
                 past.count(self, &before, machine, number);
                 self.one_call(&before, machine, number);
@@ -216,7 +205,6 @@ struct Past {
     frames: Frames,
     used_up: UsedUp,
     reading: Reading,
-    judging: Judging,
 }
 
 impl Past {

@@ -117,8 +117,7 @@ fn not_zero(at: usize) -> String {
     format!("bad record: byte {at} is not 0, else good")
 }
 
-/// The reasons of answer 4 by their names.
-pub const REASONS: [&str; 11] = [
+const REASONS: [&str; 11] = [
     "register 0 bit 0",
     "register 0 bit 3",
     "register 1 bit 7",

@@ -86,7 +86,7 @@ pub fn scene(maker: &mut Maker) {
 }
 
 /// Bases and the planes' size.
-pub fn layout(maker: &mut Maker) {
+fn layout(maker: &mut Maker) {
     for register in [2, 3, 4, 5, 7, 13] {
         if maker.once_in(2) {
             let value = maker.byte();
@@ -100,7 +100,7 @@ pub fn layout(maker: &mut Maker) {
     }
 }
 
-pub fn scrolls(maker: &mut Maker) {
+fn scrolls(maker: &mut Maker) {
     let mode = maker.byte();
     set(maker, 11, mode);
     for _ in 0..3 {

@@ -3,7 +3,6 @@
 
 pub mod dma;
 mod drawing;
-mod judge;
 mod masking;
 mod mix;
 mod ports;
@@ -29,11 +28,10 @@ pub enum Kind {
     Mix,
     Script,
     Reader,
-    Judge,
 }
 
 impl Kind {
-    pub const ALL: [(Kind, &'static str); 10] = [
+    pub const ALL: [(Kind, &'static str); 9] = [
         (Kind::Ports, "ports"),
         (Kind::Dma, "dma"),
         (Kind::Refusals, "refusals"),
@@ -43,7 +41,6 @@ impl Kind {
         (Kind::Mix, "mix"),
         (Kind::Script, "script"),
         (Kind::Reader, "reader"),
-        (Kind::Judge, "judge"),
     ];
 
     pub fn named(name: &str) -> Option<Kind> {
@@ -65,7 +62,6 @@ pub fn stream(seed: u64, kind: Kind, count: usize) -> Vec<Command> {
         Kind::Mix => mix::fill(&mut maker),
         Kind::Script => script::fill(&mut maker),
         Kind::Reader => reader::fill(&mut maker),
-        Kind::Judge => judge::fill(&mut maker),
     }
     maker.finish()
 }

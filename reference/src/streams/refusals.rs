@@ -4,7 +4,7 @@ use super::{
     masking, timing, Maker, ADDRESS, CODE, COLOUR, DMA_KIND, FILL_BYTE, LINE, PENDING, REGISTER,
     REMAINING, SCROLL, SOURCE, USED_UP,
 };
-use crate::replay::{CAPTURE, CARTRIDGE, PIXELS, VRAM, WORK_RAM};
+use crate::replay::{CARTRIDGE, PIXELS, VRAM, WORK_RAM};
 use crate::state::{COPY, FILL, TRANSFER, UNITS_MOST};
 
 pub fn fill(maker: &mut Maker) {
@@ -195,7 +195,6 @@ pub fn mend_lengths(maker: &mut Maker) {
         (WORK_RAM, machine.work_ram.length, 65_536),
         (CARTRIDGE, machine.cartridge.length, 131_072),
         (PIXELS, machine.pixels.length, 320),
-        (CAPTURE, machine.capture.length, 320),
     ] {
         if length != right {
             maker.length(buffer, right as u32);
