@@ -4,7 +4,7 @@ use stream::machine::{Machine, start};
 use stream::turn::Turn;
 use vdp_script::form::Judged;
 
-#[derive(Drop)]
+#[derive(Clone, Copy)]
 pub(crate) struct Case {
     pub machine: Machine,
     // where the text goes on

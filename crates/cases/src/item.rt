@@ -57,7 +57,7 @@ fn op_of(letter: u8) -> u8 {
 }
 
 // A command, and where the text goes on after it.
-#[derive(Drop)]
+#[derive(Clone, Copy)]
 struct Read {
     command: Command,
     end: usize,

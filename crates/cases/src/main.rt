@@ -1,5 +1,7 @@
 // Runs the worked cases (definition, Worked cases) and others on the code. The cases are text on standard input; its
 // head says how they are written. For each value that a case looks at there is a line on standard output.
+#![tactic(auto)]
+
 mod case;
 mod item;
 mod text;

@@ -11,7 +11,7 @@ pub(crate) fn onward(at: usize) -> usize {
 }
 
 // A number in the text, and where it ends.
-#[derive(Drop)]
+#[derive(Clone, Copy)]
 pub(crate) struct Numeral {
     pub value: u32,
     pub end: usize,

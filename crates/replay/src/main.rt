@@ -1,5 +1,7 @@
 // Replays a stream of calls on the model: commands of 8 bytes on standard input, a line for each call and digest on
 // standard output. Another implementation that reads the same stream must write the same lines.
+#![tactic(auto)]
+
 mod print;
 
 use crate::print::print;
@@ -15,7 +17,7 @@ use stream::turn::{LINES, still};
 const COMMANDS: u32 = 1_048_576;
 
 // A command of the input, and whether there was one.
-#[derive(Drop)]
+#[derive(Clone, Copy)]
 struct Next {
     command: Command,
     whole: bool,

@@ -1,5 +1,7 @@
 // Runs a script (definition, Scripts, The program): its bytes on standard input, a line for each call on standard
 // output.
+#![tactic(auto)]
+
 mod play;
 mod text;
 

@@ -6,7 +6,7 @@ use vdp_state::cell::{byte_at, word_at};
 
 pub const COMMAND_BYTES: usize = 8;
 
-#[derive(Drop)]
+#[derive(Clone, Copy)]
 pub struct Command {
     pub op: u8,
     pub a: u8,

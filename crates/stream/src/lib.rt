@@ -1,4 +1,6 @@
 // The replay stream (docs/STREAM.md): commands of 8 bytes, what is held between them, and what each does and answers.
+#![tactic(auto)]
+
 pub mod calls;
 pub mod command;
 pub mod digest;

@@ -1,5 +1,5 @@
 // A line of output: up to seven numbers; with no numbers there is no line.
-#[derive(Drop)]
+#[derive(Clone, Copy)]
 pub struct Line {
     pub numbers: [u32; 7],
     pub length: usize,

@@ -38,7 +38,7 @@ pub const ROW_HELD: usize = 12;
 
 pub const SCRIPT_HELD: usize = 16388;
 
-#[derive(Drop)]
+#[derive(Clone, Copy)]
 pub struct Machine {
     pub state: State,
     pub pixels: [u8; PIXELS_HELD],

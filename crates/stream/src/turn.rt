@@ -5,7 +5,7 @@ use crate::line::{Line, call_line, no_line};
 use crate::machine::Machine;
 use vdp_tape::recorder::TapeAnswer;
 
-#[derive(Drop)]
+#[derive(Clone, Copy)]
 pub struct Turn {
     pub machine: Machine,
     pub line: Line,

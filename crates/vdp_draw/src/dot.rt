@@ -44,6 +44,7 @@ fn block_name(cell: u16, across: u16, rows: u8, down: u16) -> u16
 }
 
 // The dot at a row and a column, in pixels, of a block of cells.
+#[tactic(auto, unfolding(crate::specs::Dot::block_dot))]
 pub fn block_dot(vram: &[u8], cell: u16, columns: u8, rows: u8, row: u16, column: u16) -> u8
     ensures { result ≡ block_dot vram.now cell columns rows row column }
 {

@@ -1,4 +1,6 @@
 // What a host program in C asks for by numbers and byte slices (definition, Calls for a host program): a colour word's
 // parts and the pixels of a pattern's row. The calls on the chip itself are those of `vdp_lent`.
+#![tactic(auto)]
+
 pub mod colour;
 pub mod row;

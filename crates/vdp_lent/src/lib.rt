@@ -1,6 +1,8 @@
 // The calls in the form where the caller lends the state (definition, Calls for a host program), under names for C.
 // Each copies the state out, makes the call by value and stores the state back; keep that form of the bodies, which
 // the proofs of the crate `lent` are about.
+#![tactic(auto)]
+
 pub mod answer;
 pub mod fresh;
 pub mod line;

@@ -1,5 +1,7 @@
 // A line (definition, Drawing): the layout from the registers, planes and window, mixing, shadow and highlight, and the
 // call that draws.
+#![tactic(auto)]
+
 pub mod columns;
 pub mod intensity;
 pub mod layout;

@@ -8,7 +8,7 @@ use vdp_state::cell::word_at;
 use vdp_state::state::State;
 
 // A table of cells: where it lies, and how many cells it has across and down.
-#[derive(Drop)]
+#[derive(Clone, Copy)]
 pub(crate) struct Plane {
     pub base: u16,
     pub columns: u8,
@@ -16,7 +16,7 @@ pub(crate) struct Plane {
 }
 
 // The row of a plane's cells that a line crosses, what its columns are moved by, and the line within the row.
-#[derive(Drop)]
+#[derive(Clone, Copy)]
 pub(crate) struct Row {
     pub base: u16,
     pub row: u8,

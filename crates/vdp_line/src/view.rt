@@ -11,7 +11,7 @@ use vdp_state::cell::{number_at, word_at};
 use vdp_state::state::State;
 
 // A plane and its horizontal scroll.
-#[derive(Drop)]
+#[derive(Clone, Copy)]
 pub(crate) struct Scrolled {
     pub plane: Plane,
     pub h: u16,
@@ -19,7 +19,7 @@ pub(crate) struct Scrolled {
 
 // The planes and the window; whether the vertical scroll goes by 16 columns; whether the window has the whole line,
 // else whether it lies right of its edge, which is counted in 16 columns.
-#[derive(Drop)]
+#[derive(Clone, Copy)]
 pub(crate) struct View {
     pub a: Scrolled,
     pub b: Scrolled,

@@ -7,14 +7,14 @@ use vdp_state::cell::{number_at, word_at};
 use vdp_state::colour::colour_word;
 use vdp_state::state::{State, Store};
 
-#[derive(Drop)]
+#[derive(Clone, Copy)]
 pub enum Memory {
     Vram,
     Cram,
     Vsram,
 }
 
-#[derive(Drop)]
+#[derive(Clone, Copy)]
 pub enum Access {
     Write(Memory),
     Read(Memory),

@@ -113,6 +113,7 @@ fn second_half(s: State, w: u16) -> Step
 }
 
 // What a control word decides.
+#[tactic(auto, unfolding(crate::specs::Control::control_step))]
 pub fn control_step(s: State, w: u16) -> Step
     ensures { result ≡ control_step s w }
 {

@@ -41,6 +41,7 @@ fn fill_begun(s: State, w: u16) -> Dma
 }
 
 // What a data write decides.
+#[tactic(auto, unfolding(crate::specs::Data::data_write_step))]
 pub fn data_write_step(s: State, w: u16) -> Step
     ensures { result ≡ data_write_step s w }
 {
@@ -56,6 +57,7 @@ pub fn data_write_step(s: State, w: u16) -> Step
 }
 
 // What a data read decides.
+#[tactic(auto, unfolding(crate::specs::Data::data_read_step))]
 pub fn data_read_step(s: State) -> Step
     ensures { result ≡ data_read_step s }
 {

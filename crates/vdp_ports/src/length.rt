@@ -7,11 +7,11 @@ use vdp_state::good::MOST_UNITS;
 use vdp_state::state::{Dma, State};
 
 // How many words a transfer moves.
-#[derive(Drop)]
+#[derive(Clone, Copy)]
 pub struct Words(pub u32);
 
 // How many bytes a fill or a copy writes.
-#[derive(Drop)]
+#[derive(Clone, Copy)]
 pub struct Bytes(pub u32);
 
 // Two registers joined.

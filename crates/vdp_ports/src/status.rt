@@ -21,6 +21,7 @@ fn blanking(line: u16) -> bool
 }
 
 // The status word of a state.
+#[tactic(auto, unfolding(crate::specs::Status::status_word))]
 pub fn status_word(s: State) -> u16
     ensures { result ≡ status_word s }
 {

@@ -3,7 +3,7 @@ ghost use Rattle.std.specs.Prelude.{◌≡◌};
 ghost use Rattle.vdp_ports.specs.Taken.{taken_as, pending_left, register_of, has_register};
 
 // What a control word is.
-#[derive(Drop)]
+#[derive(Clone, Copy)]
 pub enum Taken {
     RegisterWrite,
     FirstHalf,

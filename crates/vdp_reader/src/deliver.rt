@@ -12,14 +12,14 @@ use vdp_state::answer::{BAD_SCRIPT, DONE, MISSING_REGISTER};
 use vdp_state::state::State;
 
 // How many bytes were taken, and what the last of them led to.
-#[derive(Drop)]
+#[derive(Clone, Copy)]
 pub struct Reached {
     pub taken: usize,
     pub taking: Taking,
 }
 
 // The number, whether a call was made and its result, how many bytes were taken, and what is handed on.
-#[derive(Drop)]
+#[derive(Clone, Copy)]
 pub struct Delivery {
     pub number: u8,
     pub called: bool,

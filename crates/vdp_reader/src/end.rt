@@ -7,7 +7,7 @@ use vdp_state::answer::{BAD_SCRIPT, DONE};
 
 // The number, and the reader that is left.
 #[repr(C)]
-#[derive(Drop)]
+#[derive(Clone, Copy)]
 pub struct EndAnswer {
     pub number: u8,
     pub reader: Reader,

@@ -6,7 +6,7 @@ use vdp_state::answer::BAD_STATE;
 
 // What has come of the script, and what is kept of an unfinished item; stopped, the number that it answers.
 #[repr(C)]
-#[derive(Drop)]
+#[derive(Clone, Copy)]
 pub struct Reader {
     pub stage: u8,
     pub kind: u8,

@@ -9,7 +9,7 @@ use vdp_script::item::{Found, Item, item_from};
 use vdp_state::cell::joined;
 
 // What a byte leads to.
-#[derive(Drop)]
+#[derive(Clone, Copy)]
 pub enum Taking {
     Kept(Reader),
     Whole(Item),

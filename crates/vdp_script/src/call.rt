@@ -14,7 +14,7 @@ use vdp_state::answer::{Answer, BAD_SCRIPT, DONE};
 use vdp_state::state::State;
 
 // The answer of an item's call, with the byte where the script goes on.
-#[derive(Drop)]
+#[derive(Clone, Copy)]
 pub struct ItemAnswer {
     pub number: u8,
     pub result: u32,

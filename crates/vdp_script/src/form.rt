@@ -10,7 +10,7 @@ pub const VERSION: u8 = 1;
 
 // The number, and the place of the item that is refused, or how many items there are.
 #[repr(C)]
-#[derive(Drop)]
+#[derive(Clone, Copy)]
 pub struct Judged {
     pub number: u8,
     pub place: usize,

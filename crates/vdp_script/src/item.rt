@@ -6,7 +6,7 @@ ghost use Rattle.vdp_script.specs.Item.{kind_of, content_of, item_bytes, byte_af
 use vdp_state::cell::{byte_at, joined};
 
 // A call with its word, budget or line number.
-#[derive(Drop)]
+#[derive(Clone, Copy)]
 pub enum Item {
     ControlWord(u16),
     DataWord(u16),
@@ -18,7 +18,7 @@ pub enum Item {
 }
 
 // What begins at a byte of a script.
-#[derive(Drop)]
+#[derive(Clone, Copy)]
 pub enum Found {
     Whole(Item),
     Faulty,

@@ -1,4 +1,6 @@
 // Scripts (definition, Scripts): their form, writing an item, and running them by the plain calls.
+#![tactic(auto)]
+
 pub mod admitted;
 pub mod call;
 pub mod form;

@@ -10,7 +10,7 @@ use vdp_state::answer::DONE;
 use vdp_state::state::State;
 
 // The number, the place of the item that was refused or how many items there are, and the state.
-#[derive(Drop)]
+#[derive(Clone, Copy)]
 pub struct ScriptAnswer {
     pub number: u8,
     pub place: usize,

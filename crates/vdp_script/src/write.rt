@@ -13,7 +13,7 @@ const HEAD: usize = 3;
 
 // The number, and the byte after the item.
 #[repr(C)]
-#[derive(Drop)]
+#[derive(Clone, Copy)]
 pub struct Written {
     pub number: u8,
     pub next: usize,

@@ -5,7 +5,7 @@ ghost use Rattle.vdp_sprites.specs.Sprite.{sprite_from, sprite_at, on_line};
 use vdp_state::cell::{byte_at, word_at};
 
 // Y and X as they are stored, 128 more than on the screen; the size in cells; the link; the cell word.
-#[derive(Drop)]
+#[derive(Clone, Copy)]
 pub struct Sprite {
     pub y: u16,
     pub columns: u8,

@@ -9,7 +9,7 @@ use vdp_draw::width::width_of;
 
 // The dots of the 320 columns, clear past the width; the visits; one sprite too many; two solid pixels on a column;
 // whether the kept sprites used up the line's pixels.
-#[derive(Drop)]
+#[derive(Clone, Copy)]
 pub struct SpriteLine {
     pub dots: [u8; 320],
     pub visits: u8,

@@ -6,7 +6,7 @@ ghost use Rattle.vdp_sprites.specs.Kept.{walked};
 use crate::sprite::{on_line, sprite_at};
 
 // The numbers of the sprites kept on a line, the first `count` of `kept`; how many were visited; one too many met.
-#[derive(Drop)]
+#[derive(Clone, Copy)]
 pub(crate) struct KeptSprites {
     pub kept: [u8; 20],
     pub count: usize,

@@ -32,7 +32,7 @@ pub const BAD_SCRIPT: u8 = 11;
 pub const MISSING_REGISTER: u8 = 12;
 
 // The number, the word read, units made or visits (else 0), and the state after the call.
-#[derive(Drop)]
+#[derive(Clone, Copy)]
 pub struct Answer {
     pub number: u8,
     pub result: u32,
@@ -58,6 +58,7 @@ pub fn answered(number: u8, s: State, t: Step, res: u32) -> Answer
 }
 
 // The same for a call that is lent VRAM.
+#[tactic(auto, unfolding(crate::specs::Cell::perform))]
 pub fn serve(number: u8, s: State, vram: &mut [u8], t: Step, res: u32) -> Answer
     ensures { outcome result vram.new ≡ served number (chip s vram.old) t res }
 {

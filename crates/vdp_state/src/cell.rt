@@ -101,6 +101,7 @@ pub fn after(s: State, t: Step) -> State
 }
 
 // Performs a step on the state and VRAM.
+#[tactic(auto, unfolding(crate::specs::Cell::perform))]
 pub fn perform(s: State, vram: &mut [u8], t: Step) -> State
     ensures { chip result vram.new ≡ performed (chip s vram.old) t }
 {
@@ -122,6 +123,7 @@ fn present(s: State, vram: &[u8], store: Store) -> Store
 }
 
 // The step that undoes a step: the control part as it is now, and what the step's cell holds now.
+#[tactic(auto, unfolding(crate::specs::Cell::undoing))]
 pub fn undoing(s: State, vram: &[u8], t: Step) -> Step
     ensures { result ≡ undoing_step (chip s vram.now) t }
 {

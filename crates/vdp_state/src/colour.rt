@@ -4,7 +4,7 @@ ghost use Rattle.std.specs.Prelude.{◌≡◌};
 ghost use Rattle.vdp_state.specs.Colour.{parts_of, colour_word};
 
 // The three parts of a colour word, each 0 to 7.
-#[derive(Drop)]
+#[derive(Clone, Copy)]
 pub struct Parts {
     pub blue: u8,
     pub green: u8,
@@ -23,6 +23,7 @@ pub fn parts_of(w: u16) -> Parts
 }
 
 // The bits of 0EEEh, which are all that a colour cell keeps of a word: the parts joined, each where it was.
+#[tactic(auto, unfolding(crate::specs::Colour::colour_word))]
 pub fn colour_word(w: u16) -> u16
     ensures { result ≡ colour_word w }
 {

@@ -5,6 +5,7 @@ ghost use Rattle.vdp_state.specs.Fresh.{fresh as fresh_state};
 use crate::good::LAST_LINE;
 use crate::state::{Control, Dma, Flags, Port, State, Timing};
 
+#[tactic(auto, unfolding(crate::specs::Fresh::fresh))]
 pub fn fresh(pal: bool) -> State
     ensures { result ≡ fresh_state pal }
 {

@@ -61,6 +61,7 @@ pub fn control_good(c: Control) -> bool
     (c.port.code <= 63) & dma_good(c.dma) & (c.timing.line <= LAST_LINE)
 }
 
+#[tactic(auto, unfolding(crate::specs::Good::good))]
 pub fn good(s: State) -> bool
     ensures { result ≡ is_good s }
 {

@@ -3,7 +3,7 @@
 
 // The address and code registers, and whether the second half of a command is awaited.
 #[repr(C)]
-#[derive(Drop)]
+#[derive(Clone, Copy)]
 pub struct Port {
     pub address: u16,
     pub code: u8,
@@ -12,7 +12,7 @@ pub struct Port {
 
 // DMA kind: 0 idle, 1 fill waiting, 2 transfer, 3 fill, 4 copy; units remaining; source; fill byte.
 #[repr(C)]
-#[derive(Drop)]
+#[derive(Clone, Copy)]
 pub struct Dma {
     pub kind: u8,
     pub remaining: u32,
@@ -22,7 +22,7 @@ pub struct Dma {
 
 // The sprite flags of the status word, and whether the sprites of the line drawn last used up its pixels.
 #[repr(C)]
-#[derive(Drop)]
+#[derive(Clone, Copy)]
 pub struct Flags {
     pub overflow: bool,
     pub collision: bool,
@@ -32,7 +32,7 @@ pub struct Flags {
 // The line that the display is on, the line counter, status bit 7 (the vertical interrupt has come), and whether a
 // level 4 interrupt waits.
 #[repr(C)]
-#[derive(Drop)]
+#[derive(Clone, Copy)]
 pub struct Timing {
     pub line: u16,
     pub counter: u8,
@@ -42,7 +42,7 @@ pub struct Timing {
 
 // The part of the state that a tape record keeps whole.
 #[repr(C)]
-#[derive(Drop)]
+#[derive(Clone, Copy)]
 pub struct Control {
     pub port: Port,
     pub dma: Dma,
@@ -51,7 +51,7 @@ pub struct Control {
 }
 
 #[repr(C)]
-#[derive(Drop)]
+#[derive(Clone, Copy)]
 pub struct State {
     pub registers: [u8; 24],
     pub cram: [u16; 64],
@@ -61,7 +61,7 @@ pub struct State {
 }
 
 // A cell and a content for it: a VRAM word at an even place, a colour, a scroll word or a register, or no cell.
-#[derive(Drop)]
+#[derive(Clone, Copy)]
 pub enum Store {
     Nothing,
     Vram(u16, u16),
@@ -71,7 +71,7 @@ pub enum Store {
 }
 
 // The control part that follows and the cell that is stored.
-#[derive(Drop)]
+#[derive(Clone, Copy)]
 pub struct Step {
     pub control: Control,
     pub store: Store,

@@ -1,4 +1,6 @@
 // The tape (definition, The tape): records, recorded calls and step back, and the claim over whole sequences of calls.
+#![tactic(auto)]
+
 pub mod calls;
 pub mod line;
 pub mod number;

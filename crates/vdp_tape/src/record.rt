@@ -41,7 +41,7 @@ const COUNTER: u8 = 23;
 const INTERRUPTS: u8 = 24;
 
 // A cell's kind, place and content, as a record keeps them.
-#[derive(Drop)]
+#[derive(Clone, Copy)]
 pub struct KeptCell {
     pub kind: u8,
     pub place: u16,

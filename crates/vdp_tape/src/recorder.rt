@@ -13,7 +13,7 @@ use vdp_state::cell::{perform, undoing};
 use vdp_state::state::{State, Step};
 
 // The answer of a recorded call and of a step back: as the plain one, with the count of records.
-#[derive(Drop)]
+#[derive(Clone, Copy)]
 pub struct TapeAnswer {
     pub number: u8,
     pub result: u32,
