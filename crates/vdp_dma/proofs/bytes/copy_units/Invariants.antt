@@ -1,0 +1,15 @@
+-- The invariant: the units left lead where all of them lead from the start.
+use Prim.Native.Nat.{◌≤◌, ◌-◌, ◌+◌, ◌%◌}
+use borrow.Author.Rules.{rules}
+use lib.ListN.{length}
+use mathlib.Core.Path.{◌≡◌, refl, sym, ◌∙◌}
+use Rattle.vdp_dma.proofs.Units.{Leads, leads_start, leads_turn, leads_end, copy_put, copy_kind}
+use Rattle.vdp_dma.specs.Unit.{copy_step}
+use Rattle.vdp_dma.proofs.bytes.copy_units.Given as goal
+
+abbrev pub invariant-loop-i : goal.invariant-loop-i
+invariant-loop-i l = (l.i ≤ l.count) × (length l.vram ≡ 65536) × (l.count ≤ l.control.dma.remaining) × Leads copy_step l.control l.count l.increment l.initial.vram l.port l.source l.i l.vram
+
+-- proposed from the loop's first test
+abbrev pub decreases-loop-i : goal.decreases-loop-i
+decreases-loop-i l = l.count - l.i

@@ -1,0 +1,26 @@
+-- The invariant: the columns from the first to x are painted, and `met` tells whether a solid dot met another there.
+use Prim.Native.Nat.{ℕ, ◌≤◌, ◌<◌, ◌-◌, ◌+◌, min}
+use borrow.Author.Count.{falls}
+use borrow.Author.Rules.{rules}
+use lib.ListN.{length, get_or, set, length-set}
+use mathlib.Core.Bool.{Bool, ◌&&◌, ◌||◌}
+use mathlib.Core.List.{List}
+use mathlib.Core.Path.{◌≡◌, refl, sym, ap, ap₂, subst, ◌∙◌}
+use native.Mathlib.Omega.{arith}
+use Rattle.vdp_draw.specs.Dot.{solid, block_dot}
+use Rattle.vdp_draw.specs.Painted.{painted, any_from}
+use Rattle.vdp_draw.proofs.Painted.{painted_length, painted_past, painted_turn, any_turn}
+use Rattle.vdp_sprites.proofs.Painting.{dot_inside_lem, whole, whole_meets}
+use Rattle.vdp_sprites.specs.Behind.{under}
+use Rattle.vdp_sprites.specs.Column.{shown_dot}
+use Rattle.vdp_sprites.specs.Shown.{shown}
+use Rattle.vdp_sprites.proofs.paint.paint.Given as goal
+
+abbrev pub invariant-loop-x : goal.invariant-loop-x
+invariant-loop-x l = (l.initial.x ≤ l.x) × (l.x - l.initial.x ≤ l.end - l.initial.x) × (length l.dots ≡ length l.initial.dots) × (l.end ≤ length l.initial.dots)
+    × (l.dots ≡ painted (λ y old. under old (shown_dot l.vram l.line (shown l.s l.columns) y)) l.initial.x (l.x - l.initial.x) l.initial.dots)
+    × (l.met ≡ any_from (λ y. solid (get_or l.initial.dots y 0) && solid (shown_dot l.vram l.line (shown l.s l.columns) y)) l.initial.x (l.x - l.initial.x))
+
+-- proposed from the loop's first test
+abbrev pub decreases-loop-x : goal.decreases-loop-x
+decreases-loop-x l = l.end - l.x

@@ -1,0 +1,19 @@
+-- The invariant: what has been used, with what the sprites that are left use, is what all of them use.
+use Prim.Native.Nat.{ℕ, ◌≤◌, ◌-◌, ◌+◌, ◌*◌}
+use borrow.Author.Rules.{rules}
+use lib.ListN.{length, get_or, take, drop}
+use mathlib.Core.List.{List, map}
+use mathlib.Core.Path.{◌≡◌, ap}
+use native.Mathlib.Nat.{zero-add}
+use native.Mathlib.Omega.{arith}
+use Rattle.vdp_sprites.proofs.Painting.{kept_next, kept_none}
+use Rattle.vdp_sprites.specs.Sprite.{sprite_at}
+use Rattle.vdp_sprites.specs.Used.{pixels_used}
+use Rattle.vdp_sprites.proofs.used.pixels_used.Given as goal
+
+abbrev pub invariant-loop-k : goal.invariant-loop-k
+invariant-loop-k l = (l.k ≤ l.count) × (l.count ≤ 20) × (length l.kept ≡ 20) × (l.used ≤ 2040 * l.k) × (l.used + rest l.vram l.base l.kept l.count l.k ≡ rest l.vram l.base l.kept l.count 0)
+
+-- proposed from the loop's first test
+abbrev pub decreases-loop-k : goal.decreases-loop-k
+decreases-loop-k l = l.count - l.k
