@@ -1,7 +1,7 @@
 -- The units left lead where all of them lead from the start.
 use Rattle.std.proofs.Common.{ℕ, Bool, cond, refl, sym, ap, ◌∙◌, arith}
 use mathlib.Core.Path.{ap₂}
-use Rattle.vdp_dma.proofs.Units.{leads_start, leads_turn, leads_end, fill_put, fill_kind}
+use Rattle.vdp_dma.proofs.Units.{leads_turn, fill_put, fill_kind}
 use Rattle.vdp_dma.specs.Unit.{byte_stored, writes_vram, inverted, fill_step}
 use Rattle.vdp_ports.specs.Access.{access}
 use Rattle.vdp_state.specs.Cell.{stored_in}
