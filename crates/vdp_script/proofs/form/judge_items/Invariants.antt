@@ -1,12 +1,9 @@
 -- The invariant: what is judged of the items from here on, after those that were passed, is what is judged of all.
-use Prim.Native.Nat.{◌≤◌, ◌-◌, ◌+◌}
-use borrow.Author.Rules.{rules}
-use native.Mathlib.Omega.{arith}
+use Prim.Native.Nat.{◌≤◌, ◌-◌}
 use lib.ListN.{length, drop}
-use mathlib.Core.Bool.{true, false}
-use mathlib.Core.Path.{◌≡◌, sym, ap, ◌∙◌}
+use mathlib.Core.Path.{◌≡◌}
 use Rattle.vdp_script.specs.Form.{items_from, form_judged}
-use Rattle.vdp_script.proofs.Forms.{judged_after, judged_start, judged_at, judged_further, at_faulty, some_left, none_left}
+use Rattle.vdp_script.proofs.Forms.{judged_after}
 use Rattle.vdp_script.proofs.form.judge_items.Given as goal
 
 abbrev pub invariant-loop-at : goal.invariant-loop-at

@@ -1,12 +1,10 @@
 -- The invariant: what is judged of the items from here on, with the flag so far, is what is judged of all.
-use Prim.Native.Nat.{◌≤◌, ◌-◌, ◌+◌}
-use borrow.Author.Rules.{rules}
-use native.Mathlib.Omega.{arith}
-use lib.ListN.{length, drop}
-use mathlib.Core.Path.{◌≡◌, sym, ap, ap₂, ◌∙◌}
+use Prim.Native.Nat.{◌≤◌, ◌-◌}
+use lib.ListN.{length}
+use mathlib.Core.Path.{◌≡◌}
 use Rattle.vdp_script.specs.Missing.{registers_judged}
-use Rattle.vdp_script.proofs.Forms.{items_at, at_faulty, some_left, none_left}
-use Rattle.vdp_script.proofs.Registers.{registers_after, registers_start, none_missing, missing_here, missing_further}
+use Rattle.vdp_script.proofs.Forms.{items_at}
+use Rattle.vdp_script.proofs.Registers.{registers_after}
 use Rattle.vdp_script.proofs.missing.judge_registers.Given as goal
 
 abbrev pub invariant-loop-at : goal.invariant-loop-at
