@@ -9,6 +9,5 @@ use Rattle.vdp_reader.proofs.deliver.take_bytes.Given as goal
 abbrev pub invariant-loop-taken : goal.invariant-loop-taken
 invariant-loop-taken l = (l.taken ≤ length l.bytes) × (ahead l.taken (reach l.kept (drop l.taken l.bytes)) ≡ reach l.initial.kept l.bytes)
 
--- proposed from the loop's first test
 abbrev pub decreases-loop-taken : goal.decreases-loop-taken
 decreases-loop-taken l = length l.bytes - l.taken

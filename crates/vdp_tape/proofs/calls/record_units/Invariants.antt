@@ -18,6 +18,5 @@ invariant-loop-i l =    (l.at ≡ l.count + l.i)
     × (l.count + l.n ≤ capacity l.tape)
     × (record_steps (unit l.cartridge l.ram) (l.n - l.i) (recorder l.next l.vram l.tape l.at) ≡ record_steps (unit l.cartridge l.ram) l.n (recorder l.initial.next l.initial.vram l.initial.tape l.count))
 
--- proposed from the loop's first test
 abbrev pub decreases-loop-i : goal.decreases-loop-i
 decreases-loop-i l = l.n - l.i

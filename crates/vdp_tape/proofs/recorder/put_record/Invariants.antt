@@ -10,6 +10,5 @@ use Rattle.vdp_tape.proofs.recorder.put_record.Given as goal
 abbrev pub invariant-loop-i : goal.invariant-loop-i
 invariant-loop-i l = (length l.tape ≡ length l.initial.tape) × (l.at + length l.bytes ≤ length l.tape) × (sets l.tape (l.at + l.i) (drop l.i l.bytes) ≡ sets l.initial.tape l.at l.bytes)
 
--- proposed from the loop's first test
 abbrev pub decreases-loop-i : goal.decreases-loop-i
 decreases-loop-i l = length l.bytes - l.i

@@ -14,6 +14,5 @@ use Rattle.vdp_tape.proofs.step_back.top_good.Given as goal
 abbrev pub invariant-loop-left : goal.invariant-loop-left
 invariant-loop-left l = (l.left ≤ l.top) × (l.top ≤ capacity l.tape) × (top_good l.tape l.n l.k ≡ top_good l.tape l.top l.left)
 
--- proposed from the loop's first test
 abbrev pub decreases-loop-left : goal.decreases-loop-left
 decreases-loop-left l = l.left

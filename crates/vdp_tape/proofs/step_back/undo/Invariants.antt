@@ -15,6 +15,5 @@ use Rattle.vdp_tape.proofs.step_back.undo.Given as goal
 abbrev pub invariant-loop-left : goal.invariant-loop-left
 invariant-loop-left l =    (l.left ≤ l.top) × (l.top ≤ capacity l.tape) × (length l.vram ≡ length l.initial.vram) × (undo l.tape l.top l.left (chip l.next l.vram) ≡ undo l.tape l.n l.k (chip l.initial.next l.initial.vram))
 
--- proposed from the loop's first test
 abbrev pub decreases-loop-left : goal.decreases-loop-left
 decreases-loop-left l = l.left
