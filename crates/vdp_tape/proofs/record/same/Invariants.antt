@@ -1,9 +1,7 @@
 -- The invariant: what is left to compare decides.
 use Prim.Native.Nat.{◌-◌}
-use borrow.Author.Rules.{rules}
 use lib.ListN.{length, drop}
-use mathlib.Core.Path.{◌≡◌, refl, sym, ◌∙◌}
-use Rattle.vdp_state.proofs.Same.{same_lengths, same_passed, same_failed, same_ended}
+use mathlib.Core.Path.{◌≡◌}
 use Rattle.vdp_state.specs.Same.{same}
 use Rattle.vdp_tape.proofs.record.same.Given as goal
 

@@ -1,13 +1,7 @@
 -- The invariant: the records left to test decide.
-use Prim.Native.Nat.{◌≤◌, ◌-◌}
-use borrow.Author.Rules.{rules}
-use borrow.Author.Tests.{not-true, not-false}
-use mathlib.Core.Bool.{Bool, ◌&&◌}
-use mathlib.Core.Path.{◌≡◌, refl, sym, ap, ◌∙◌}
-use native.Mathlib.Omega.{arith}
-use Rattle.vdp_tape.proofs.Steps.{record_part, good_turn}
+use Prim.Native.Nat.{◌≤◌}
+use mathlib.Core.Path.{◌≡◌}
 use Rattle.vdp_tape.specs.Number.{capacity}
-use Rattle.vdp_tape.specs.Record.{good_record}
 use Rattle.vdp_tape.specs.StepBack.{top_good}
 use Rattle.vdp_tape.proofs.step_back.top_good.Given as goal
 
