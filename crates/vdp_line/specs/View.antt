@@ -3,12 +3,11 @@
 use Rattle.std.specs.Prelude.{ℕ, ◌+◌, ◌*◌, ◌/◌, ◌%◌, Bool, cond, ◌||◌, List, ltb, get_or}
 use Rattle.vdp_state.specs.State.{Chip}
 use Rattle.vdp_ports.specs.Length.{register}
-use Rattle.vdp_draw.specs.Width.{width_of}
 use Rattle.vdp_line.specs.declared.plane.Row.{Row}
 use Rattle.vdp_line.specs.declared.view.Scrolled.{Scrolled}
 use Rattle.vdp_line.specs.declared.view.View.{View}
 use Rattle.vdp_line.specs.Layer.{horizontal}
-use Rattle.vdp_line.specs.Layout.{bit, wide, backdrop}
+use Rattle.vdp_line.specs.Layout.{bit}
 use Rattle.vdp_line.specs.Plane.{plane_a, plane_b, window, row_of, side}
 
 abbrev pub view_of : Chip → ℕ → View

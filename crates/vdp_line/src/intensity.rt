@@ -78,6 +78,7 @@ fn shade(b: u8, a: u8, sprite: u8) -> u8
 }
 
 // The pixel byte of a column; without shadow it is mixed and no more.
+#[tactic(auto, unfolding(crate::specs::Intensity::pixel, crate::specs::Intensity::intensity))]
 pub(crate) fn pixel(shadow: bool, backdrop: u8, b: u8, a: u8, sprite: u8) -> u8
     requires { backdrop < 64 }
     ensures { result ≡ pixel_of shadow backdrop b a sprite }

@@ -12,6 +12,7 @@ pub(crate) fn in_front(dot: u8) -> bool
 }
 
 // The colour index that shows, asked from the front.
+#[tactic(auto, unfolding(crate::specs::Mix::mix))]
 pub(crate) fn mix(backdrop: u8, b: u8, a: u8, sprite: u8) -> u8
     ensures { result ≡ mixed backdrop b a sprite }
 {

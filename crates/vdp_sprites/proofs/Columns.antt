@@ -1,7 +1,7 @@
 -- Sprites put one behind the other on clear columns give each column its earliest solid dot, and meet where two are
 -- solid.
-use Prim.Native.Nat.{ℕ, zero, suc, ◌+◌, ◌-◌, ◌<◌, ◌≤◌}
-use mathlib.Core.Path.{◌≡◌, refl, sym, ap, ap₂, ◌∙◌}
+use Prim.Native.Nat.{ℕ, ◌+◌, ◌<◌, ◌≤◌}
+use mathlib.Core.Path.{◌≡◌, refl, sym, ap, ◌∙◌}
 use mathlib.Core.Bool.{Bool, true, false, cond, ◌&&◌, ◌||◌}
 use mathlib.Core.List.{List, [], ◌∷◌, ◌++◌}
 use native.Mathlib.Nat.{add-zero}
@@ -15,7 +15,7 @@ use Rattle.vdp_draw.specs.Painted.{painted}
 use Rattle.vdp_draw.specs.Tabulate.{tabulate, any_below}
 use Rattle.vdp_draw.proofs.Painted.{painted_length, painted_past, painted_inside, painted_all, any_same, any_either, none_below}
 use Rattle.vdp_sprites.proofs.Painting.{under_clear}
-use Rattle.vdp_sprites.specs.Behind.{under, behind, meets, behind_all, meets_all}
+use Rattle.vdp_sprites.specs.Behind.{under, behind, behind_all, meets_all}
 use Rattle.vdp_sprites.specs.Column.{shown_dot, sprite_dot, solid_count, collides}
 use Rattle.vdp_sprites.specs.Shown.{Shown}
 
@@ -45,11 +45,11 @@ two_there old dot count = by_both (solid old) refl (solid dot) refl
 module _ (vram : List ℕ) (line width : ℕ) where
   pub behind_length : (ss : List Shown) (l : List ℕ) → length (behind_all vram line width ss l) ≡ length l
   behind_length [] l = refl
-  behind_length (s ∷ ss) l = behind_length ss (behind (shown_dot vram line s) width l) ∙ painted_length _ 0 l width
+  behind_length (s ∷ ss) l = behind_length ss (behind (shown_dot vram line s) width l) ∙ painted_length (λ y old. under old (shown_dot vram line s y)) 0 l width
 
   behind_past : (ss : List Shown) (l : List ℕ) (x : ℕ) → width ≤ x → get_or (behind_all vram line width ss l) x 0 ≡ get_or l x 0
   behind_past [] l x h = refl
-  behind_past (s ∷ ss) l x h = behind_past ss (behind (shown_dot vram line s) width l) x h ∙ painted_past _ 0 l width x (omega arith)
+  behind_past (s ∷ ss) l x h = behind_past ss (behind (shown_dot vram line s) width l) x h ∙ painted_past (λ y old. under old (shown_dot vram line s y)) 0 l width x (omega arith)
 
   one_at : (s : Shown) (l : List ℕ) → width ≤ length l → (x : ℕ) → x < width → get_or (behind (shown_dot vram line s) width l) x 0 ≡ under (get_or l x 0) (shown_dot vram line s x)
   one_at s l fits x h = painted_inside (λ y old. under old (shown_dot vram line s y)) 0 l width x (omega arith) (omega arith) (omega arith)

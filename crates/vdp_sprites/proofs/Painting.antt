@@ -16,7 +16,7 @@ use Rattle.vdp_draw.proofs.Painted.{painted_within, any_within}
 use Rattle.vdp_sprites.specs.declared.sprite.Sprite.{Sprite}
 use Rattle.vdp_sprites.specs.Behind.{under, behind, meets}
 use Rattle.vdp_sprites.specs.Column.{dot_inside, shown_dot}
-use Rattle.vdp_sprites.specs.Shown.{Shown, shown}
+use Rattle.vdp_sprites.specs.Shown.{shown}
 
 -- a clear dot leaves what stands there
 pub under_clear : (old dot : ℕ) → solid dot ≡ false → under old dot ≡ old

@@ -1,5 +1,5 @@
 -- A walk cut in two: what has been kept and visited so far, before the walk that is left.
-use Prim.Native.Nat.{ℕ, suc, ◌+◌, ◌-◌, ◌<◌}
+use Prim.Native.Nat.{ℕ, suc, ◌+◌, ◌-◌, ◌<◌, ◌≤◌}
 use mathlib.Core.Path.{◌≡◌, sym, ap, ap₂, subst, ◌∙◌}
 use mathlib.Core.Bool.{Bool, true, false}
 use mathlib.Core.List.{List, [], ◌∷◌, ◌++◌, append_assoc, append-nil}
@@ -7,7 +7,7 @@ use native.Mathlib.Nat.{zero-add}
 use native.Mathlib.Numerals.{add-one}
 use native.Mathlib.Omega.{arith}
 use borrow.Author.Tests.{eq-eqb, ne_eqb}
-use lib.ListN.{length, take, set}
+use lib.ListN.{length, take, set, length-set}
 use lib.Seq.{take-suc-set}
 use Rattle.vdp_sprites.specs.declared.sprite.Sprite.{Sprite}
 use Rattle.vdp_sprites.specs.Sprite.{sprite_at, on_line}
@@ -72,3 +72,25 @@ module _ (vram : List ℕ) (base : ℕ) (wide : Bool) (line most visits i : ℕ)
 -- a number stored after those kept
 pub kept_more : (l : List ℕ) (count i : ℕ) → count < length l → take count l ++ (i ∷ []) ≡ take (count + 1) (set l count i)
 kept_more l count i h = sym (ap (λ (n : ℕ). take n (set l count i)) (add-one count) ∙ take-suc-set l count i h)
+
+-- a visit that goes on, kept or passed by: the numbers kept are in their array, and the walk goes on from the link
+module _ (vram : List ℕ) (base : ℕ) (wide : Bool) (line most room visits i : ℕ) (more : visits < most) (s : Sprite) (e : s ≡ sprite_at vram base i) (whole : Walk) where
+  abbrev pub Met : List ℕ → ℕ → Type 0
+  Met kept count =
+      (count ≤ room) × (length kept ≡ 20)
+      × (joined (take count kept) (visits + 1) (onward wide s (walk_from vram base wide line (most - (visits + 1)) (room - count) s.link)) ≡ whole)
+
+  module _ (kept : List ℕ) (count : ℕ) (fits : count ≤ room) (long : length kept ≡ 20) (is : joined (take count kept) visits (walk_from vram base wide line (most - visits) (room - count) i) ≡ whole) where
+    pub passed : on_line s line ≡ false → Met kept count
+    passed h = (fits, long, sym (visit_pass vram base wide line most visits i (take count kept) more s e (room - count) h) ∙ is)
+
+    pub kept_on : room ≤ 20 → on_line s line ≡ true → (count ≡ room → ⊥) → Met (set kept count i) (count + 1)
+    kept_on few h differ =
+        let within : count < length kept = omega (arith, fits, few, long, differ) in
+        let less : room - count - 1 ≡ room - (count + 1) = omega arith in
+        let some : room - count ≡ 0 → ⊥ = λ z. differ (omega (arith, fits, z)) in
+        let next : List ℕ → ℕ → Walk = λ k r. joined k (visits + 1) (onward wide s (walk_from vram base wide line (most - (visits + 1)) r s.link)) in (
+          omega (arith, fits, differ),
+          simp length-set long,
+          sym (visit_keep vram base wide line most visits i (take count kept) more s e (room - count) h some ∙ ap₂ next (kept_more kept count i within) less) ∙ is,
+        )

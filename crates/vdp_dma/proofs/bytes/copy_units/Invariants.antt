@@ -1,9 +1,8 @@
 -- The invariant: the units left lead where all of them lead from the start.
-use Prim.Native.Nat.{◌≤◌, ◌-◌, ◌+◌, ◌%◌}
-use borrow.Author.Rules.{rules}
+use Prim.Native.Nat.{◌≤◌, ◌-◌}
 use lib.ListN.{length}
-use mathlib.Core.Path.{◌≡◌, refl, sym, ◌∙◌}
-use Rattle.vdp_dma.proofs.Units.{Leads, leads_start, leads_turn, leads_end, copy_put, copy_kind}
+use mathlib.Core.Path.{◌≡◌}
+use Rattle.vdp_dma.proofs.Units.{Leads}
 use Rattle.vdp_dma.specs.Unit.{copy_step}
 use Rattle.vdp_dma.proofs.bytes.copy_units.Given as goal
 

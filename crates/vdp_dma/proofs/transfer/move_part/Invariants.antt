@@ -1,24 +1,12 @@
 -- The invariant: the words from i on, moved from here, lead where all of them lead from the start.
-use Prim.Native.Nat.{ℕ, ◌≤◌, ◌<◌, ◌-◌, ◌+◌, ◌*◌, ◌/◌}
-use borrow.Author.Rules.{rules}
-use lib.ListN.{length, drop, get_or}
-use mathlib.Core.List.{List}
-use mathlib.Core.Path.{◌≡◌, refl, sym, ap, ap₂, ◌∙◌}
-use native.Mathlib.Omega.{arith}
-use Rattle.vdp_dma.proofs.Units.{units_control_next, units_none}
-use Rattle.vdp_dma.proofs.Words.{moved_turn, moved_end, word_moved}
-use Rattle.vdp_dma.specs.Source.{next_source}
-use Rattle.vdp_dma.specs.Transfer.{moved, holding, colours_in, scrolls_in}
-use Rattle.vdp_dma.specs.Unit.{unit_control, units_control}
-use Rattle.vdp_ports.specs.Access.{access as access_by, written}
-use Rattle.vdp_ports.specs.Data.{advanced}
+use Prim.Native.Nat.{◌≤◌, ◌-◌, ◌*◌, ◌/◌}
+use lib.ListN.{length, drop}
+use mathlib.Core.Path.{◌≡◌}
+use Rattle.vdp_dma.specs.Transfer.{moved, holding}
+use Rattle.vdp_dma.specs.Unit.{units_control}
+use Rattle.vdp_ports.specs.Access.{access as access_by}
 use Rattle.vdp_ports.specs.Length.{register}
-use Rattle.vdp_ports.specs.declared.access.Access.{Access}
-use Rattle.vdp_state.specs.Cell.{stored_in}
-use Rattle.vdp_state.specs.State.{Chip, chip}
-use Rattle.vdp_state.specs.declared.state.Control.{Control}
-use Rattle.vdp_state.specs.declared.state.Port.{Port}
-use Rattle.vdp_state.specs.declared.state.Store.{Store}
+use Rattle.vdp_state.specs.State.{chip}
 use Rattle.vdp_dma.proofs.transfer.move_part.Given as goal
 
 abbrev pub invariant-loop-i : goal.invariant-loop-i

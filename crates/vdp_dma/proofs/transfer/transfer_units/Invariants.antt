@@ -1,14 +1,10 @@
 -- The invariant: the words left, moved from here, lead where all of them lead from the start, and they are at hand.
-use Prim.Native.Nat.{ℕ, ◌≤◌, ◌<◌, ◌-◌, ◌/◌, ◌^◌}
-use borrow.Author.Rules.{rules}
+use Prim.Native.Nat.{◌≤◌, ◌<◌, ◌^◌}
 use lib.ListN.{length}
-use mathlib.Core.List.{List}
-use mathlib.Core.Path.{◌≡◌, refl, sym, ap, subst, ◌∙◌}
-use native.Mathlib.Omega.{arith}
-use Rattle.vdp_dma.proofs.Words.{PartMoved, part_moved}
+use mathlib.Core.Path.{◌≡◌}
 use Rattle.vdp_dma.specs.Run.{ran}
 use Rattle.vdp_dma.specs.Transfer.{Ready}
-use Rattle.vdp_state.specs.State.{Chip, chip}
+use Rattle.vdp_state.specs.State.{chip}
 use Rattle.vdp_dma.proofs.transfer.transfer_units.Given as goal
 
 abbrev pub invariant-loop-left : goal.invariant-loop-left

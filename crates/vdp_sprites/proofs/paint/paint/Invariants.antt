@@ -1,16 +1,10 @@
 -- The invariant: the columns from the first to x are painted, and `met` tells whether a solid dot met another there.
-use Prim.Native.Nat.{ℕ, ◌≤◌, ◌<◌, ◌-◌, ◌+◌, min}
-use borrow.Author.Count.{falls}
-use borrow.Author.Rules.{rules}
-use lib.ListN.{length, get_or, set, length-set}
-use mathlib.Core.Bool.{Bool, ◌&&◌, ◌||◌}
-use mathlib.Core.List.{List}
-use mathlib.Core.Path.{◌≡◌, refl, sym, ap, ap₂, subst, ◌∙◌}
-use native.Mathlib.Omega.{arith}
-use Rattle.vdp_draw.specs.Dot.{solid, block_dot}
+use Prim.Native.Nat.{◌≤◌, ◌-◌}
+use lib.ListN.{length, get_or}
+use mathlib.Core.Bool.{◌&&◌}
+use mathlib.Core.Path.{◌≡◌}
+use Rattle.vdp_draw.specs.Dot.{solid}
 use Rattle.vdp_draw.specs.Painted.{painted, any_from}
-use Rattle.vdp_draw.proofs.Painted.{painted_length, painted_past, painted_turn, any_turn}
-use Rattle.vdp_sprites.proofs.Painting.{dot_inside_lem, whole, whole_meets}
 use Rattle.vdp_sprites.specs.Behind.{under}
 use Rattle.vdp_sprites.specs.Column.{shown_dot}
 use Rattle.vdp_sprites.specs.Shown.{shown}
