@@ -6,8 +6,8 @@
 use mathlib.Core.Path.{refl}
 use mathlib.Core.List.{[], ◌∷◌}
 use mir.Syntax.{field, place, copy, rv_opd, aggregate}
-use types.Run.{of_opd, and_then, no_more}
-use types.Part.{agg}
+use types.Run.{load, stop, of_opd, and_then, no_more}
+use types.Part.{agg, look_in}
 use denote.Struct.Laws as LL
 use Rattle.vdp_state.specs.contracts.state.State as T
 use Rattle.vdp_state.proofs.state.State.TheLaws as T'
@@ -33,7 +33,8 @@ use Rattle.vdp_lent.specs.contracts.answer.LentItemAnswer as J
 use Rattle.vdp_lent.proofs.answer.LentItemAnswer.TheLaws as J'
 use Rattle.vdp_lent.specs.contracts.answer.LentDelivery as G
 use Rattle.vdp_lent.proofs.answer.LentDelivery.TheLaws as G'
-use Rattle.lent.proofs.Datum.{Datum, Taken, a_struct, a_field}
+use Rattle.lent.proofs.Datum.{Datum, Taken, Made, a_struct, a_field, straight, by_local}
+use Rattle.lent.proofs.Many.{from_at}
 use Rattle.lent.proofs.Lent.{Form}
 
 abbrev pub state : Datum
@@ -70,7 +71,7 @@ to_given = record {
 }
 
 abbrev pub answer : Form
-answer = record { S = state; Y = answered; Z = given; back = to_state; out = to_given }
+answer = record { S = state; Y = answered; Z = given; back = by_local to_state; out = straight to_given }
 
 -- field 3 of a TapeAnswer, at byte 16
 abbrev pub to_tape_state : Taken tape_answered state
@@ -91,7 +92,7 @@ to_tape_given = record {
 }
 
 abbrev pub tape_answer : Form
-tape_answer = record { S = state; Y = tape_answered; Z = tape_given; back = to_tape_state; out = to_tape_given }
+tape_answer = record { S = state; Y = tape_answered; Z = tape_given; back = by_local to_tape_state; out = straight to_tape_given }
 
 abbrev pub script_answered : Datum
 script_answered = a_struct P.the_type P'.the_laws P'.the_plain P'.mir refl
@@ -118,7 +119,7 @@ to_script_given = record {
 }
 
 abbrev pub script_answer : Form
-script_answer = record { S = state; Y = script_answered; Z = script_given; back = to_script_state; out = to_script_given }
+script_answer = record { S = state; Y = script_answered; Z = script_given; back = by_local to_script_state; out = straight to_script_given }
 
 abbrev pub item_answered : Datum
 item_answered = a_struct I.the_type I'.the_laws I'.the_plain I'.mir refl
@@ -145,7 +146,7 @@ to_item_given = record {
 }
 
 abbrev pub item_answer_lem : Form
-item_answer_lem = record { S = state; Y = item_answered; Z = item_given; back = to_item_state; out = to_item_given }
+item_answer_lem = record { S = state; Y = item_answered; Z = item_given; back = by_local to_item_state; out = straight to_item_given }
 
 abbrev pub a_reader : Datum
 a_reader = a_struct K.the_type K'.the_laws K'.the_plain K'.mir refl
@@ -165,14 +166,24 @@ to_delivery_state = record {
   yields = λ t W Γ E i n l r back e p. of_opd t (a_field t n e p 5 20 refl);
 }
 
--- fields 0 to 4 of a Delivery, at bytes 0, 1, 4, 8 and 16
-abbrev pub to_delivery_given : Taken delivered delivery_given
+-- field 4 of a Delivery, at byte 16
+abbrev pub to_delivery_reader : Taken delivered a_reader
+to_delivery_reader = record {
+  of = λ r. r.reader;
+  is = λ r v p. (LL.owed D.the_type D'.the_laws r _ p).1.1.1.1.0;
+  rv = λ i. rv_opd (copy (place i (field 4 ∷ [])));
+  yields = λ t W Γ E i n l r back e p. of_opd t (a_field t n e p 4 16 refl);
+}
+
+-- fields 0 to 3 of a Delivery, at bytes 0, 1, 4 and 8, and its reader, which goes through a local of its own
+abbrev pub to_delivery_given : Made delivered delivery_given
 to_delivery_given = record {
   of = λ r. record { number = r.number; called = r.called; result = r.result; taken = r.taken; reader = r.reader };
   is = λ r v p. let had = LL.owed D.the_type D'.the_laws r _ p in LL.owes G.the_type G'.the_laws _ (had.0, (had.1.0, (had.1.1.0, (had.1.1.1.0, (had.1.1.1.1.0, tt)))));
-  rv = λ i. aggregate (copy (place i (field 0 ∷ [])) ∷ copy (place i (field 1 ∷ [])) ∷ copy (place i (field 2 ∷ [])) ∷ copy (place i (field 3 ∷ [])) ∷ copy (place i (field 4 ∷ [])) ∷ []);
-  yields = λ t W Γ E i n l r back e p. agg t (and_then t (a_field t n e p 0 0 refl) (and_then t (a_field t n e p 1 1 refl) (and_then t (a_field t n e p 2 4 refl) (and_then t (a_field t n e p 3 8 refl) (and_then t (a_field t n e p 4 16 refl) (no_more t))))));
+  pieces = record { D = a_reader; taken = to_delivery_reader } ∷ [];
+  rv = λ i j. aggregate (copy (place i (field 0 ∷ [])) ∷ copy (place i (field 1 ∷ [])) ∷ copy (place i (field 2 ∷ [])) ∷ copy (place i (field 3 ∷ [])) ∷ copy (place j []) ∷ []);
+  yields = λ t W Γ E i n l r back e p j m ns sp pt. agg t (and_then t (a_field t n e p 0 0 refl) (and_then t (a_field t n e p 1 1 refl) (and_then t (a_field t n e p 2 4 refl) (and_then t (a_field t n e p 3 8 refl) (and_then t (load t (from_at t sp.0 (stop t)) (look_in t m pt.0.1)) (no_more t))))));
 }
 
 abbrev pub delivery : Form
-delivery = record { S = state; Y = delivered; Z = delivery_given; back = to_delivery_state; out = to_delivery_given }
+delivery = record { S = state; Y = delivered; Z = delivery_given; back = by_local to_delivery_state; out = to_delivery_given }

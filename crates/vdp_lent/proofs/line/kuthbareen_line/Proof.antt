@@ -1,5 +1,6 @@
 -- `kuthbareen_line` meets its contract, by the law of every thin function (`lent`).
 -- Assumes nothing.
+use mathlib.Core.Path.{refl}
 use mathlib.Core.List.{[], ◌∷◌}
 use mir.Syntax.{named, w8, ty_int, w32}
 use denote.Builtin.{u8}
@@ -13,9 +14,8 @@ use Rattle.vdp_lent.specs.contracts.line.kuthbareen_line.Key.{name}
 use Rattle.vdp_lent.proofs.line.kuthbareen_line.Statement.{statement}
 use Rattle.vdp_lent.proofs.line.kuthbareen_line.Code as code
 
-pub kuthbareen-line-spec : {M : Type 1} → statement M
-unfolding code.routine
-kuthbareen-line-spec 𝓤 𝓛 𝓜 𝓡 =
-    lent_alike answer 2 (further (f.signature).params) (f.ended).kept.1 𝓛 𝓜 𝓡 code.env name g.name (shared (named 1) (ty_int w8) ∷ num w32 ∷ relent (named 2) (ty_int w8) ∷ []) (λ κs. (spells_shared (named 1) κs.1.0 u8, (spells_num w32, (spells_relent (named 2) κs.1.1.0 u8, tt))))
-    (code.unfolded 𝓤 𝓛.H 𝓜 𝓡) (f.clauses 𝓛 𝓜.mem 𝓡.run) g.routine code.calls-vdp-line::line::line
-    (λ κs qs x a vss _. met 𝓤 𝓛 𝓜 𝓡 ((κs.1, qs.1, tt, (x.now, a), (state.val x.now ∷ [], vss)), tt))
+pub kuthbareen_line_spec : {M : Type 1} → statement M
+kuthbareen_line_spec 𝓤 𝓛 𝓜 𝓡 wired =
+    lent_alike answer 2 (further (f.signature).params) (f.ended).kept.1 𝓛 𝓜 𝓡 𝓡.env name g.name (shared (named 1) (ty_int w8) ∷ num w32 ∷ relent (named 2) (ty_int w8) ∷ []) (λ κs. (spells_shared (named 1) κs.1.0 u8, (spells_num w32, (spells_relent (named 2) κs.1.1.0 u8, tt))))
+    (code.unfolded 𝓤 𝓛.H 𝓜 𝓡 wired) (f.clauses 𝓛 𝓜.mem 𝓡.returns) (𝓡.env g.name) refl
+    (λ κs qs x a vss _. met 𝓤 𝓛 𝓜 𝓡 (code.calls-vdp_line::line::line 𝓡.env wired) ((κs.1, qs.1, tt, (x.now, a), (state.val x.now ∷ [], vss)), tt))

@@ -1,5 +1,6 @@
 -- `kuthbareen_data_read` meets its contract, by the law of every thin function (`lent`).
 -- Assumes nothing.
+use mathlib.Core.Path.{refl}
 use mathlib.Core.List.{[], ◌∷◌}
 use mir.Syntax.{named, w8, ty_int}
 use denote.Builtin.{u8}
@@ -13,9 +14,8 @@ use Rattle.vdp_lent.specs.contracts.ports.kuthbareen_data_read.Key.{name}
 use Rattle.vdp_lent.proofs.ports.kuthbareen_data_read.Statement.{statement}
 use Rattle.vdp_lent.proofs.ports.kuthbareen_data_read.Code as code
 
-pub kuthbareen-data-read-spec : {M : Type 1} → statement M
-unfolding code.routine
-kuthbareen-data-read-spec 𝓤 𝓛 𝓜 𝓡 =
-    lent_alike answer 1 (further (f.signature).params) (f.ended).kept.1 𝓛 𝓜 𝓡 code.env name g.name (shared (named 1) (ty_int w8) ∷ []) (λ κs. (spells_shared (named 1) κs.1.0 u8, tt))
-    (code.unfolded 𝓤 𝓛.H 𝓜 𝓡) (f.clauses 𝓛 𝓜.mem 𝓡.run) g.routine code.calls-vdp-ports::data::data-read
-    (λ κs qs x a vss _. met 𝓤 𝓛 𝓜 𝓡 ((κs.1, qs.1, tt, (x.now, a), (state.val x.now ∷ [], vss)), tt))
+pub kuthbareen_data_read_spec : {M : Type 1} → statement M
+kuthbareen_data_read_spec 𝓤 𝓛 𝓜 𝓡 wired =
+    lent_alike answer 1 (further (f.signature).params) (f.ended).kept.1 𝓛 𝓜 𝓡 𝓡.env name g.name (shared (named 1) (ty_int w8) ∷ []) (λ κs. (spells_shared (named 1) κs.1.0 u8, tt))
+    (code.unfolded 𝓤 𝓛.H 𝓜 𝓡 wired) (f.clauses 𝓛 𝓜.mem 𝓡.returns) (𝓡.env g.name) refl
+    (λ κs qs x a vss _. met 𝓤 𝓛 𝓜 𝓡 (code.calls-vdp_ports::data::data_read 𝓡.env wired) ((κs.1, qs.1, tt, (x.now, a), (state.val x.now ∷ [], vss)), tt))

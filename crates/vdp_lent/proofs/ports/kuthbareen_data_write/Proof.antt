@@ -1,5 +1,6 @@
 -- `kuthbareen_data_write` meets its contract, by the law of every thin function (`lent`). VRAM is lent on to the call by value, and what that says of its last bytes is what the function says.
 -- Assumes nothing.
+use mathlib.Core.Path.{refl}
 use mathlib.Core.List.{[], ◌∷◌}
 use mir.Syntax.{named, w8, ty_int, w16}
 use denote.Builtin.{u8}
@@ -13,9 +14,8 @@ use Rattle.vdp_lent.specs.contracts.ports.kuthbareen_data_write.Key.{name}
 use Rattle.vdp_lent.proofs.ports.kuthbareen_data_write.Statement.{statement}
 use Rattle.vdp_lent.proofs.ports.kuthbareen_data_write.Code as code
 
-pub kuthbareen-data-write-spec : {M : Type 1} → statement M
-unfolding code.routine
-kuthbareen-data-write-spec 𝓤 𝓛 𝓜 𝓡 =
-    lent_alike answer 1 (further (f.signature).params) (f.ended).kept.1 𝓛 𝓜 𝓡 code.env name g.name (relent (named 1) (ty_int w8) ∷ num w16 ∷ []) (λ κs. (spells_relent (named 1) κs.1.0 u8, (spells_num w16, tt)))
-    (code.unfolded 𝓤 𝓛.H 𝓜 𝓡) (f.clauses 𝓛 𝓜.mem 𝓡.run) g.routine code.calls-vdp-ports::data::data-write
-    (λ κs qs x a vss _. met 𝓤 𝓛 𝓜 𝓡 ((κs.1, qs.1, tt, (x.now, a), (state.val x.now ∷ [], vss)), tt))
+pub kuthbareen_data_write_spec : {M : Type 1} → statement M
+kuthbareen_data_write_spec 𝓤 𝓛 𝓜 𝓡 wired =
+    lent_alike answer 1 (further (f.signature).params) (f.ended).kept.1 𝓛 𝓜 𝓡 𝓡.env name g.name (relent (named 1) (ty_int w8) ∷ num w16 ∷ []) (λ κs. (spells_relent (named 1) κs.1.0 u8, (spells_num w16, tt)))
+    (code.unfolded 𝓤 𝓛.H 𝓜 𝓡 wired) (f.clauses 𝓛 𝓜.mem 𝓡.returns) (𝓡.env g.name) refl
+    (λ κs qs x a vss _. met 𝓤 𝓛 𝓜 𝓡 (code.calls-vdp_ports::data::data_write 𝓡.env wired) ((κs.1, qs.1, tt, (x.now, a), (state.val x.now ∷ [], vss)), tt))

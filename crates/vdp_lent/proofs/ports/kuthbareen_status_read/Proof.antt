@@ -1,5 +1,6 @@
 -- `kuthbareen_status_read` meets its contract, by the law of every thin function (`lent`).
 -- Assumes nothing.
+use mathlib.Core.Path.{refl}
 use mathlib.Core.List.{[], ◌∷◌}
 use Rattle.lent.proofs.Lent.{further, lent_alike}
 use Rattle.vdp_lent.proofs.Held.{state, answer}
@@ -10,9 +11,8 @@ use Rattle.vdp_lent.specs.contracts.ports.kuthbareen_status_read.Key.{name}
 use Rattle.vdp_lent.proofs.ports.kuthbareen_status_read.Statement.{statement}
 use Rattle.vdp_lent.proofs.ports.kuthbareen_status_read.Code as code
 
-pub kuthbareen-status-read-spec : {M : Type 1} → statement M
-unfolding code.routine
-kuthbareen-status-read-spec 𝓤 𝓛 𝓜 𝓡 =
-    lent_alike answer 0 (further (f.signature).params) (f.ended).kept.1 𝓛 𝓜 𝓡 code.env name g.name [] (λ κs. tt)
-    (code.unfolded 𝓤 𝓛.H 𝓜 𝓡) (f.clauses 𝓛 𝓜.mem 𝓡.run) g.routine code.calls-vdp-ports::status::status-read
-    (λ κs qs x a vss _. met 𝓤 𝓛 𝓜 𝓡 ((κs.1, qs.1, tt, (x.now, a), (state.val x.now ∷ [], vss)), tt))
+pub kuthbareen_status_read_spec : {M : Type 1} → statement M
+kuthbareen_status_read_spec 𝓤 𝓛 𝓜 𝓡 wired =
+    lent_alike answer 0 (further (f.signature).params) (f.ended).kept.1 𝓛 𝓜 𝓡 𝓡.env name g.name [] (λ κs. tt)
+    (code.unfolded 𝓤 𝓛.H 𝓜 𝓡 wired) (f.clauses 𝓛 𝓜.mem 𝓡.returns) (𝓡.env g.name) refl
+    (λ κs qs x a vss _. met 𝓤 𝓛 𝓜 𝓡 (code.calls-vdp_ports::status::status_read 𝓡.env wired) ((κs.1, qs.1, tt, (x.now, a), (state.val x.now ∷ [], vss)), tt))

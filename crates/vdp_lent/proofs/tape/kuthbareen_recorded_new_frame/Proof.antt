@@ -1,5 +1,6 @@
 -- `kuthbareen_recorded_new_frame` meets its contract, by the law of every thin function (`lent`).
 -- Assumes nothing.
+use mathlib.Core.Path.{refl}
 use mathlib.Core.List.{[], ◌∷◌}
 use mir.Syntax.{named, w8, ty_int, w64}
 use denote.Builtin.{u8}
@@ -13,9 +14,8 @@ use Rattle.vdp_lent.specs.contracts.tape.kuthbareen_recorded_new_frame.Key.{name
 use Rattle.vdp_lent.proofs.tape.kuthbareen_recorded_new_frame.Statement.{statement}
 use Rattle.vdp_lent.proofs.tape.kuthbareen_recorded_new_frame.Code as code
 
-pub kuthbareen-recorded-new-frame-spec : {M : Type 1} → statement M
-unfolding code.routine
-kuthbareen-recorded-new-frame-spec 𝓤 𝓛 𝓜 𝓡 =
-    lent_alike tape_answer 1 (further (f.signature).params) (f.ended).kept.1 𝓛 𝓜 𝓡 code.env name g.name (relent (named 1) (ty_int w8) ∷ num w64 ∷ []) (λ κs. (spells_relent (named 1) κs.1.0 u8, (spells_num w64, tt)))
-    (code.unfolded 𝓤 𝓛.H 𝓜 𝓡) (f.clauses 𝓛 𝓜.mem 𝓡.run) g.routine code.calls-vdp-tape::calls::new-frame
-    (λ κs qs x a vss _. met 𝓤 𝓛 𝓜 𝓡 ((κs.1, qs.1, tt, (x.now, a), (state.val x.now ∷ [], vss)), tt))
+pub kuthbareen_recorded_new_frame_spec : {M : Type 1} → statement M
+kuthbareen_recorded_new_frame_spec 𝓤 𝓛 𝓜 𝓡 wired =
+    lent_alike tape_answer 1 (further (f.signature).params) (f.ended).kept.1 𝓛 𝓜 𝓡 𝓡.env name g.name (relent (named 1) (ty_int w8) ∷ num w64 ∷ []) (λ κs. (spells_relent (named 1) κs.1.0 u8, (spells_num w64, tt)))
+    (code.unfolded 𝓤 𝓛.H 𝓜 𝓡 wired) (f.clauses 𝓛 𝓜.mem 𝓡.returns) (𝓡.env g.name) refl
+    (λ κs qs x a vss _. met 𝓤 𝓛 𝓜 𝓡 (code.calls-vdp_tape::calls::new_frame 𝓡.env wired) ((κs.1, qs.1, tt, (x.now, a), (state.val x.now ∷ [], vss)), tt))

@@ -1,5 +1,6 @@
 -- `kuthbareen_acknowledge` meets its contract, by the law of every thin function (`lent`).
 -- Assumes nothing.
+use mathlib.Core.Path.{refl}
 use mathlib.Core.List.{[], ◌∷◌}
 use mir.Syntax.{w8}
 use Rattle.lent.proofs.Lent.{further, lent_alike}
@@ -12,9 +13,8 @@ use Rattle.vdp_lent.specs.contracts.timing.kuthbareen_acknowledge.Key.{name}
 use Rattle.vdp_lent.proofs.timing.kuthbareen_acknowledge.Statement.{statement}
 use Rattle.vdp_lent.proofs.timing.kuthbareen_acknowledge.Code as code
 
-pub kuthbareen-acknowledge-spec : {M : Type 1} → statement M
-unfolding code.routine
-kuthbareen-acknowledge-spec 𝓤 𝓛 𝓜 𝓡 =
-    lent_alike answer 0 (further (f.signature).params) (f.ended).kept.1 𝓛 𝓜 𝓡 code.env name g.name (num w8 ∷ []) (λ κs. (spells_num w8, tt))
-    (code.unfolded 𝓤 𝓛.H 𝓜 𝓡) (f.clauses 𝓛 𝓜.mem 𝓡.run) g.routine code.calls-vdp-timing::interrupt::acknowledge
-    (λ κs qs x a vss _. met 𝓤 𝓛 𝓜 𝓡 ((κs.1, qs.1, tt, (x.now, a), (state.val x.now ∷ [], vss)), tt))
+pub kuthbareen_acknowledge_spec : {M : Type 1} → statement M
+kuthbareen_acknowledge_spec 𝓤 𝓛 𝓜 𝓡 wired =
+    lent_alike answer 0 (further (f.signature).params) (f.ended).kept.1 𝓛 𝓜 𝓡 𝓡.env name g.name (num w8 ∷ []) (λ κs. (spells_num w8, tt))
+    (code.unfolded 𝓤 𝓛.H 𝓜 𝓡 wired) (f.clauses 𝓛 𝓜.mem 𝓡.returns) (𝓡.env g.name) refl
+    (λ κs qs x a vss _. met 𝓤 𝓛 𝓜 𝓡 (code.calls-vdp_timing::interrupt::acknowledge 𝓡.env wired) ((κs.1, qs.1, tt, (x.now, a), (state.val x.now ∷ [], vss)), tt))
