@@ -2,6 +2,7 @@
 use crate::case::{Case, answered, group_begun, group_done, judged, marked, moved, named};
 use crate::text::{after_dot, line_end, number, onward, place_of, write_name, write_value};
 use crate::value::value;
+use std::io::{self, Write};
 use stream::command::Command;
 use stream::machine::{SCRIPT, lent};
 use stream::session::turn;
@@ -30,14 +31,14 @@ fn begin(c: Case, text: &[u8]) -> Case {
 }
 
 // `?WHICH NAME` or `?WHICH.INDEX NAME`: a value is shown.
-fn show(c: Case, text: &[u8], vram: &[u8]) -> Case {
+fn show<W: Write>(out: &mut W, c: Case, text: &[u8], vram: &[u8]) -> io::Result<Case> {
     let which = number(text, onward(c.at));
     let index = after_dot(text, which);
     let end = line_end(text, c.at);
-    write_name(text, c.name, c.name_end);
-    write_name(text, onward(index.end), end);
-    write_value(value(c, vram, which.value, index.value));
-    moved(c, end)
+    write_name(out, text, c.name, c.name_end)?;
+    write_name(out, text, onward(index.end), end)?;
+    write_value(out, value(c, vram, which.value, index.value))?;
+    Ok(moved(c, end))
 }
 
 // `(TIMES`: the items up to `)` are done so often, once at least.
@@ -111,7 +112,8 @@ fn judge(c: Case, script: &[u8]) -> Case {
 }
 
 // What the next item does. `*` marks the state and VRAM, and `#` begins a comment.
-pub(crate) fn item(
+pub(crate) fn item<W: Write>(
+    out: &mut W,
     c: Case,
     text: &[u8],
     vram: &mut [u8],
@@ -119,20 +121,21 @@ pub(crate) fn item(
     cartridge: &mut [u8],
     tape: &mut [u8],
     script: &mut [u8],
-) -> Case {
+) -> io::Result<Case> {
     let b = byte_at(text, c.at);
-    match b {
+    let next = match b {
         0..=b' ' => moved(c, onward(c.at)),
         b'=' => {
             clear(vram, ram, cartridge, tape, script);
             begin(c, text)
         }
-        b'?' => show(c, text, vram),
+        b'?' => show(out, c, text, vram)?,
         b'(' => repeat(c, text),
         b')' => group_done(c, onward(c.at)),
         b'*' => moved(marked(c, vram), onward(c.at)),
         b'j' => moved(judge(c, script), onward(c.at)),
         b'#' => moved(c, line_end(text, c.at)),
         _ => act(c, text, vram, ram, cartridge, tape, script),
-    }
+    };
+    Ok(next)
 }

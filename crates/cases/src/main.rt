@@ -10,43 +10,60 @@ mod value;
 use crate::case::{Case, beginning};
 use crate::item::item;
 use crate::text::TEXT;
-use libc::STDIN_FILENO;
+use std::io::{self, BufWriter, Read, Write};
 use stream::machine::{CARTRIDGE_HELD, SCRIPT_HELD, TAPE_HELD, VRAM_HELD, WORK_RAM_HELD};
 
 // The most items that are done, those of a group each time. Past the end of the text an item does nothing.
 const ITEMS: usize = 65536;
 
 // Does the items of a text in their order.
-fn play(
+fn play<W: Write>(
+    out: &mut W,
     text: &[u8],
     vram: &mut [u8],
     ram: &mut [u8],
     cartridge: &mut [u8],
     tape: &mut [u8],
     script: &mut [u8],
-) -> Case {
+) -> io::Result<Case> {
     let mut c = beginning();
     let mut left = ITEMS;
     while 0 < left {
         left -= 1;
-        let next = item(c, text, vram, ram, cartridge, tape, script);
+        let next = item(out, c, text, vram, ram, cartridge, tape, script)?;
         c = next;
     }
-    c
+    Ok(c)
 }
 
 // Reads the text and does its items.
-fn read(vram: &mut [u8], ram: &mut [u8], cartridge: &mut [u8], tape: &mut [u8], script: &mut [u8]) {
-    let mut text = [0u8; TEXT];
-    let n = io::read_full(STDIN_FILENO, &mut text);
-    play(&text[..n], vram, ram, cartridge, tape, script);
+fn read(
+    rt: &(impl Input + Print + AllocGlobal),
+    vram: &mut [u8],
+    ram: &mut [u8],
+    cartridge: &mut [u8],
+    tape: &mut [u8],
+    script: &mut [u8],
+) -> io::Result<()> {
+    let mut text = Vec::new(rt.alloc());
+    rt.reader().take(TEXT as u64).read_to_end(&mut text)?;
+    let mut out = BufWriter::new(rt.alloc(), io::writer(rt))?;
+    play(&mut out, &text, vram, ram, cartridge, tape, script)?;
+    out.flush()
 }
 
-fn main() {
+fn main(rt: HostRuntime) -> io::Result<()> {
     let mut vram = [0u8; VRAM_HELD];
     let mut ram = [0u8; WORK_RAM_HELD];
     let mut cartridge = [0u8; CARTRIDGE_HELD];
     let mut tape = [0u8; TAPE_HELD];
     let mut script = [0u8; SCRIPT_HELD];
-    read(&mut vram, &mut ram, &mut cartridge, &mut tape, &mut script);
+    read(
+        &rt,
+        &mut vram,
+        &mut ram,
+        &mut cartridge,
+        &mut tape,
+        &mut script,
+    )
 }

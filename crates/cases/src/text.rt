@@ -1,5 +1,5 @@
 // The text of the cases: numbers in hexadecimal digits, and the rest of a line.
-use libc::STDOUT_FILENO;
+use std::io::{self, Write};
 use vdp_state::cell::byte_at;
 
 // The most text that is read.
@@ -82,18 +82,23 @@ pub(crate) fn place_of(letters: &[u8], letter: u8) -> usize {
 }
 
 // Writes a part of the text, and a colon after it.
-pub(crate) fn write_name(text: &[u8], from: usize, end: usize) {
+pub(crate) fn write_name<W: Write>(
+    out: &mut W,
+    text: &[u8],
+    from: usize,
+    end: usize,
+) -> io::Result<()> {
     if text.len() < end {
-        return;
+        return Ok(());
     }
     if from <= end {
-        io::write_all(STDOUT_FILENO, &text[from..end]);
-        io::write_all(STDOUT_FILENO, b": ");
+        out.write_all(&text[from..end])?;
+        out.write_all(b": ")?;
     }
+    Ok(())
 }
 
 // Writes a value and ends the line.
-pub(crate) fn write_value(value: u32) {
-    io::print_hex(STDOUT_FILENO, value as u64, 4);
-    io::write_all(STDOUT_FILENO, b"\n");
+pub(crate) fn write_value<W: Write>(out: &mut W, value: u32) -> io::Result<()> {
+    writeln!(out, "{value:04x}")
 }

@@ -5,7 +5,7 @@
 mod print;
 
 use crate::print::print;
-use libc::STDIN_FILENO;
+use std::io::{self, BufReader, BufWriter, ErrorKind, Read, Write};
 use stream::command::{COMMAND_BYTES, Command, command_of};
 use stream::machine::{
     CARTRIDGE_HELD, Machine, SCRIPT_HELD, TAPE_HELD, VRAM_HELD, WORK_RAM_HELD, start,
@@ -24,22 +24,24 @@ struct Next {
 }
 
 // Reads a command. At the input's end, also after a cut last command, it is op 0, which does nothing.
-fn read_command() -> Next {
+fn read_command<R: Read>(input: &mut R) -> io::Result<Next> {
     let mut bytes = [0u8; COMMAND_BYTES];
-    if io::read_full(STDIN_FILENO, &mut bytes) < COMMAND_BYTES {
-        return Next {
+    match input.read_exact(&mut bytes) {
+        Ok(()) => Ok(Next {
+            command: command_of(&bytes),
+            whole: true,
+        }),
+        Err(e) if e.kind() == ErrorKind::UnexpectedEof => Ok(Next {
             command: command_of(&[]),
             whole: false,
-        };
-    }
-    Next {
-        command: command_of(&bytes),
-        whole: true,
+        }),
+        Err(e) => Err(e),
     }
 }
 
 // Does a command. A delivery prints a line for each call that it makes, and is done with its own.
-fn obey(
+fn obey<W: Write>(
+    out: &mut W,
     m: Machine,
     k: Command,
     vram: &mut [u8],
@@ -47,38 +49,60 @@ fn obey(
     cartridge: &mut [u8],
     tape: &mut [u8],
     script: &mut [u8],
-) -> Machine {
+) -> io::Result<Machine> {
     let mut machine = m;
     let mut left = LINES;
     while 0 < left {
         let t = turn(machine, k, vram, ram, cartridge, tape, script);
         let line = t.line;
-        print(line);
+        print(out, line)?;
         let after = t.machine;
         machine = after;
         left = still(left - 1, after.delivering);
     }
-    machine
+    Ok(machine)
 }
 
 // Does a whole stream on buffers that are zero.
-fn play(vram: &mut [u8], ram: &mut [u8], cartridge: &mut [u8], tape: &mut [u8], script: &mut [u8]) {
+fn play<R: Read, W: Write>(
+    input: &mut R,
+    out: &mut W,
+    vram: &mut [u8],
+    ram: &mut [u8],
+    cartridge: &mut [u8],
+    tape: &mut [u8],
+    script: &mut [u8],
+) -> io::Result<()> {
     let mut m = start();
     let mut left = COMMANDS;
     while 0 < left {
-        let next = read_command();
+        let next = read_command(input)?;
         left = still(left - 1, next.whole);
         let k = next.command;
-        let after = obey(m, k, vram, ram, cartridge, tape, script);
+        let after = obey(out, m, k, vram, ram, cartridge, tape, script)?;
         m = after;
     }
+    Ok(())
 }
 
-fn main() {
+// The input is limited to the most commands, so that nothing is read past them.
+fn main(rt: HostRuntime) -> io::Result<()> {
+    let limit = (COMMANDS as u64) * (COMMAND_BYTES as u64);
+    let mut input = BufReader::new(rt.alloc(), rt.reader().take(limit))?;
+    let mut out = BufWriter::new(rt.alloc(), io::writer(&rt))?;
     let mut vram = [0u8; VRAM_HELD];
     let mut ram = [0u8; WORK_RAM_HELD];
     let mut cartridge = [0u8; CARTRIDGE_HELD];
     let mut tape = [0u8; TAPE_HELD];
     let mut script = [0u8; SCRIPT_HELD];
-    play(&mut vram, &mut ram, &mut cartridge, &mut tape, &mut script);
+    play(
+        &mut input,
+        &mut out,
+        &mut vram,
+        &mut ram,
+        &mut cartridge,
+        &mut tape,
+        &mut script,
+    )?;
+    out.flush()
 }

@@ -1,7 +1,7 @@
 // Lines of output: the numbers of a line, decimal, with single spaces.
 ghost use Rattle.std.specs.Prelude.{◌≤◌};
 
-use libc::STDOUT_FILENO;
+use std::io::{self, Write};
 use stream::line::Line;
 
 // How many numbers a line shows; it has room for seven.
@@ -12,21 +12,22 @@ fn shown(length: usize) -> usize
 }
 
 // A space after each number but the last, which ends the line.
-fn separate(i: usize, last: usize) {
+fn separate<W: Write>(out: &mut W, i: usize, last: usize) -> io::Result<()> {
     if i < last {
-        io::write_all(STDOUT_FILENO, b" ");
+        out.write_all(b" ")
     } else {
-        io::write_all(STDOUT_FILENO, b"\n");
+        out.write_all(b"\n")
     }
 }
 
-// Writes the line to standard output.
-pub(crate) fn print(line: Line) {
+// Writes the line.
+pub(crate) fn print<W: Write>(out: &mut W, line: Line) -> io::Result<()> {
     let n = shown(line.length);
     let mut i = 0;
     while i < n {
-        io::print_decimal(STDOUT_FILENO, line.numbers[i] as u64);
+        write!(out, "{}", line.numbers[i])?;
         i += 1;
-        separate(i, n);
+        separate(out, i, n)?;
     }
+    Ok(())
 }

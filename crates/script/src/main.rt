@@ -6,14 +6,18 @@ mod play;
 mod text;
 
 use crate::play::play;
-use libc::STDIN_FILENO;
+use std::io::{self, BufWriter, Read, Write};
 use vdp_script::admitted::MOST_BYTES;
 
 // One byte more than a script may have, so that a longer input is seen.
 const READ_BYTES: usize = MOST_BYTES + 1;
 
-fn main() {
-    let mut script = [0u8; READ_BYTES];
-    let n = io::read_full(STDIN_FILENO, &mut script);
-    play(&script[..n]);
+fn main(rt: HostRuntime) -> io::Result<()> {
+    let mut script = Vec::new(rt.alloc());
+    rt.reader()
+        .take(READ_BYTES as u64)
+        .read_to_end(&mut script)?;
+    let mut out = BufWriter::new(rt.alloc(), io::writer(&rt))?;
+    play(&mut out, &script)?;
+    out.flush()
 }

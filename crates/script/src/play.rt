@@ -1,6 +1,6 @@
 // A script judged and its calls made, with the lines that are printed (definition, Scripts, The program).
 use crate::text::{LINE_BYTES, line_text};
-use libc::STDOUT_FILENO;
+use std::io::{self, Write};
 use vdp_script::admitted::admitted;
 use vdp_script::call::script_item;
 use vdp_state::answer::DONE;
@@ -8,7 +8,7 @@ use vdp_state::fresh::fresh;
 
 // Prints the line of an item. The remainders change nothing: a script of 16,384 bytes has 5,461 items at most, and a
 // result has 16 bits.
-fn print_line(place: usize, number: u8, res: u32) {
+fn print_line<W: Write>(out: &mut W, place: usize, number: u8, res: u32) -> io::Result<()> {
     let mut text = [0u8; LINE_BYTES];
     let n = line_text(
         (place % 65536) as u16,
@@ -16,38 +16,44 @@ fn print_line(place: usize, number: u8, res: u32) {
         (res % 65536) as u16,
         &mut text,
     );
-    io::write_all(STDOUT_FILENO, &text[..n]);
+    out.write_all(&text[..n])
 }
 
 // Makes the calls of a script that was admitted, from a fresh state and without a cartridge, up to the first that is
 // refused.
-fn play_items(script: &[u8], vram: &mut [u8], ram: &[u8], pixels: &mut [u8]) {
+fn play_items<W: Write>(
+    out: &mut W,
+    script: &[u8],
+    vram: &mut [u8],
+    ram: &[u8],
+    pixels: &mut [u8],
+) -> io::Result<()> {
     let mut state = fresh(false);
     let mut at = 1;
     let mut place = 0;
     while at < script.len() {
         let answer = script_item(state, vram, &[], ram, pixels, script, at);
-        print_line(place, answer.number, answer.result);
+        print_line(out, place, answer.number, answer.result)?;
         if answer.number != DONE {
-            return;
+            return Ok(());
         }
         let left = answer.state;
         state = left;
         at = answer.next;
         place += 1;
     }
+    Ok(())
 }
 
 // Runs a script with VRAM, work RAM and a pixel buffer that are all 0. It is judged as a whole first, and one that is
 // refused there prints a line of its own.
-pub(crate) fn play(script: &[u8]) {
+pub(crate) fn play<W: Write>(out: &mut W, script: &[u8]) -> io::Result<()> {
     let judged = admitted(script);
     if judged.number != DONE {
-        print_line(judged.place, judged.number, 0);
-        return;
+        return print_line(out, judged.place, judged.number, 0);
     }
     let mut vram = [0u8; 65536];
     let ram = [0u8; 65536];
     let mut pixels = [0u8; 320];
-    play_items(script, &mut vram, &ram, &mut pixels);
+    play_items(out, script, &mut vram, &ram, &mut pixels)
 }

@@ -1,7 +1,7 @@
 // The text of a line (definition, Scripts, The program), put into a buffer one part after the other. Each part answers
 // the byte after it.
 ghost use Rattle.std.specs.Prelude.{◌≡◌, [], ◌∷◌, ◌+◌, ◌<◌, ◌≤◌, length, take};
-ghost use Rattle.io.specs.Counts.{IsPrefixLen};
+ghost use Rattle.std.specs.Counts.{IsPrefixLen};
 ghost use Rattle.script.specs.Text.{digit, decimal, hex_digit, hex, line_text, Put};
 
 // The most bytes of a line: two numbers of five digits, four digits, two spaces and the line's end.
@@ -40,6 +40,7 @@ fn put_decimal(out: &mut [u8], at: usize, n: u16) -> usize
 }
 
 // The character of a hexadecimal digit.
+#[tactic(auto, unfolding(crate::specs::Text::hex_digit))]
 fn hex_digit(d: u16) -> u8
     requires { d < 16 }
     ensures { result ≡ hex_digit d }

@@ -54,6 +54,7 @@ fn may_answer(number: u8) -> bool
 }
 
 // Whether a reader is in a row of the table of stages.
+#[tactic(auto, unfolding(crate::specs::Reader::in_range))]
 pub fn in_range(reader: Reader) -> bool
     ensures { result ≡ in_range reader }
 {

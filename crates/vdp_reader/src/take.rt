@@ -91,6 +91,7 @@ fn long_item(kind: u8, upper: u8, byte: u8) -> Taking
 }
 
 // What a byte does to a reader that takes it.
+#[tactic(auto, unfolding(crate::specs::Take::takes))]
 pub(crate) fn take_byte(reader: Reader, byte: u8) -> Taking
     ensures { result ≡ takes reader byte }
 {

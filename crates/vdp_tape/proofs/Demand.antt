@@ -13,7 +13,7 @@ use Rattle.vdp_state.specs.declared.state.Step.{Step}
 use Rattle.vdp_state.specs.Answer.{first}
 use Rattle.vdp_state.specs.Cell.{perform, undoing}
 use Rattle.vdp_state.specs.Range.{GoodChip, GoodStep}
-use Rattle.vdp_state.specs.State.{Chip, chip}
+use Rattle.vdp_state.specs.State.{Chip}
 use Rattle.vdp_state.proofs.Bools.{by_cases, both}
 use Rattle.vdp_state.proofs.Iterate.{iterate_related}
 use Rattle.vdp_state.proofs.Laws.{StepsGood, undone, performed_good, undoing_good}
@@ -21,7 +21,7 @@ use Rattle.vdp_tape.specs.Book.{Book, turn_page, turned, turned_back, BookOutcom
 use Rattle.vdp_tape.specs.Demand.{seen, seen_in_book}
 use Rattle.vdp_tape.specs.Number.{capacity, recorded_number}
 use Rattle.vdp_tape.specs.Record.{record_of, step_of, good_record, record_at}
-use Rattle.vdp_tape.specs.Recorder.{Recorder, recorder, record_step, record_next, record_steps, Plan, TapeOutcome, tape_outcome_at, recorded_by}
+use Rattle.vdp_tape.specs.Recorder.{Recorder, record_step, record_next, record_steps, Plan, TapeOutcome, tape_outcome_at, recorded_by}
 use Rattle.vdp_tape.specs.StepBack.{top_good, undo, back_tests, back_number, step_back}
 use Rattle.vdp_tape.proofs.Numbers.{accepted, recorded_number_lem}
 use Rattle.vdp_tape.proofs.Records.{read_back, record_good}

@@ -9,6 +9,5 @@ use Rattle.vdp_dma.proofs.bytes.copy_units.Given as goal
 abbrev pub invariant-loop-i : goal.invariant-loop-i
 invariant-loop-i l = (l.i ≤ l.count) × (length l.vram ≡ 65536) × (l.count ≤ l.control.dma.remaining) × Leads copy_step l.control l.count l.increment l.initial.vram l.port l.source l.i l.vram
 
--- proposed from the loop's first test
 abbrev pub decreases-loop-i : goal.decreases-loop-i
 decreases-loop-i l = l.count - l.i

@@ -15,6 +15,5 @@ invariant-loop-i l = (l.i ≤ l.count)
     × (l.count ≤ l.control.dma.remaining)
     × Leads fill_step l.control l.count l.increment l.initial.vram l.port l.control.dma.source l.i l.vram
 
--- proposed from the loop's first test
 abbrev pub decreases-loop-i : goal.decreases-loop-i
 decreases-loop-i l = l.count - l.i

@@ -15,6 +15,5 @@ invariant-loop-left l = (length l.vram ≡ length l.initial.vram)
     × (0 < l.left → Ready l.cartridge l.next.control.dma l.left)
     × (ran l.cartridge l.ram l.left (chip l.next l.vram) ≡ ran l.cartridge l.ram l.initial.left (chip l.initial.next l.initial.vram))
 
--- proposed from the loop's first test
 abbrev pub decreases-loop-left : goal.decreases-loop-left
 decreases-loop-left l = l.left

@@ -9,6 +9,5 @@ use Rattle.vdp_host.proofs.row.draw_row.Given as goal
 abbrev pub invariant-loop-column : goal.invariant-loop-column
 invariant-loop-column l = (l.column ≤ 8) × (length l.pixels ≡ 8) × (length l.initial.pixels ≡ 8) × (l.pixels ≡ painted (λ x _. pattern_pixel l.vram l.name l.row x) 0 l.column l.initial.pixels)
 
--- proposed from the loop's first test
 abbrev pub decreases-loop-column : goal.decreases-loop-column
 decreases-loop-column l = 8 - l.column

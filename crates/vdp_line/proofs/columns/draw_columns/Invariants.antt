@@ -11,6 +11,5 @@ invariant-loop-c l =
     (l.c ≤ l.groups) × (l.groups ≤ 20) × (length l.pixels ≡ 320) × (length l.initial.pixels ≡ 320) × (length l.vsram ≡ 40) × (l.back < 64)
     × (l.pixels ≡ painted (λ y _. group_pixel l.view l.vsram l.vram l.line l.dots l.shadow l.back (y / 16) y) 0 (16 * l.c) l.initial.pixels)
 
--- proposed from the loop's first test
 abbrev pub decreases-loop-c : goal.decreases-loop-c
 decreases-loop-c l = l.groups - l.c

@@ -12,6 +12,5 @@ invariant-loop-x l =
     (l.from ≤ l.x) × (l.x ≤ l.end) × (length l.pixels ≡ length l.initial.pixels) × (l.end ≤ length l.initial.pixels) × (length l.initial.pixels ≤ 320) × (l.back < 64)
     × (l.pixels ≡ painted (λ y _. pixel l.shadow l.back (row_dot l.vram l.b y) (row_dot l.vram l.a y) (get_or l.dots y 0)) l.from (l.x - l.from) l.initial.pixels)
 
--- proposed from the loop's first test
 abbrev pub decreases-loop-x : goal.decreases-loop-x
 decreases-loop-x l = l.end - l.x

@@ -9,6 +9,5 @@ use Rattle.vdp_script.proofs.form.judge_items.Given as goal
 abbrev pub invariant-loop-at : goal.invariant-loop-at
 invariant-loop-at l = (l.place ≤ l.at) × (judged_after l.place (items_from 0 (drop l.at l.script)) ≡ form_judged (items_from 0 (drop 1 l.script)))
 
--- proposed from the loop's first test
 abbrev pub decreases-loop-at : goal.decreases-loop-at
 decreases-loop-at l = length l.script - l.at

@@ -10,6 +10,5 @@ use Rattle.vdp_script.proofs.missing.judge_registers.Given as goal
 abbrev pub invariant-loop-at : goal.invariant-loop-at
 invariant-loop-at l = (l.place ≤ l.at) × (registers_after l.place l.flag (items_at l.script l.at) ≡ registers_judged l.pending (items_at l.script 1))
 
--- proposed from the loop's first test
 abbrev pub decreases-loop-at : goal.decreases-loop-at
 decreases-loop-at l = length l.script - l.at

@@ -12,6 +12,5 @@ abbrev pub invariant-loop-at : goal.invariant-loop-at
 invariant-loop-at l = (l.place ≤ l.at) × (length l.vram ≡ length l.initial.vram) × (length l.pixels ≡ length l.initial.pixels) × WellFormedAt l.script l.at
     × (run_items (items_at l.script l.at) l.place l.cartridge l.ram (chip l.state l.vram) l.pixels ≡ run_items (items_at l.script 1) 0 l.cartridge l.ram (chip l.initial.state l.initial.vram) l.initial.pixels)
 
--- proposed from the loop's first test
 abbrev pub decreases-loop-at : goal.decreases-loop-at
 decreases-loop-at l = length l.script - l.at

@@ -15,6 +15,5 @@ invariant-loop-x l = (l.initial.x ≤ l.x) × (l.x - l.initial.x ≤ l.end - l.i
     × (l.dots ≡ painted (λ y old. under old (shown_dot l.vram l.line (shown l.s l.columns) y)) l.initial.x (l.x - l.initial.x) l.initial.dots)
     × (l.met ≡ any_from (λ y. solid (get_or l.initial.dots y 0) && solid (shown_dot l.vram l.line (shown l.s l.columns) y)) l.initial.x (l.x - l.initial.x))
 
--- proposed from the loop's first test
 abbrev pub decreases-loop-x : goal.decreases-loop-x
 decreases-loop-x l = l.end - l.x

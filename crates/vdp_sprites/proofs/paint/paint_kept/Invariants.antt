@@ -18,6 +18,5 @@ invariant-loop-k l = (l.k ≤ l.count) × (l.count ≤ 20) × (length l.kept ≡
     × (behind_all l.vram l.line l.width (rest l.vram l.base l.kept l.count l.left l.can_mask l.masked l.k) l.dots ≡ behind_all l.vram l.line l.width (rest l.vram l.base l.kept l.count l.width l.began false 0) l.initial.dots)
     × ((l.met || meets_all l.vram l.line l.width (rest l.vram l.base l.kept l.count l.left l.can_mask l.masked l.k) l.dots) ≡ meets_all l.vram l.line l.width (rest l.vram l.base l.kept l.count l.width l.began false 0) l.initial.dots)
 
--- proposed from the loop's first test
 abbrev pub decreases-loop-k : goal.decreases-loop-k
 decreases-loop-k l = l.count - l.k

@@ -15,6 +15,5 @@ rest vram base kept count k = pixels_used (map (sprite_at vram base) (drop k (ta
 abbrev pub invariant-loop-k : goal.invariant-loop-k
 invariant-loop-k l = (l.k ≤ l.count) × (l.count ≤ 20) × (length l.kept ≡ 20) × (l.used ≤ 2040 * l.k) × (l.used + rest l.vram l.base l.kept l.count l.k ≡ rest l.vram l.base l.kept l.count 0)
 
--- proposed from the loop's first test
 abbrev pub decreases-loop-k : goal.decreases-loop-k
 decreases-loop-k l = l.count - l.k

@@ -10,6 +10,5 @@ abbrev pub invariant-loop-visits : goal.invariant-loop-visits
 invariant-loop-visits l = (l.visits ≤ l.most) × (l.count ≤ l.room) × (l.room ≤ 20) × (length l.kept ≡ 20)
     × (joined (take l.count l.kept) l.visits (walk_from l.vram l.base l.wide l.line (l.most - l.visits) (l.room - l.count) l.i) ≡ walk_from l.vram l.base l.wide l.line (most_visits l.wide) (most_on_line l.wide) 0)
 
--- proposed from the loop's first test
 abbrev pub decreases-loop-visits : goal.decreases-loop-visits
 decreases-loop-visits l = l.most - l.visits
