@@ -6,9 +6,9 @@ use Rattle.script.proofs.play.play_items.Goals as goal
 pub loop-at-smaller : goal.loop-at-smaller
 loop-at-smaller g c =
     omega
-    (arith, goes_further _ _ _ _ _ _ _ _ c.if-answer-ne-DONE.false _ c.script_item-answer.ensures, c.loop-at-test.true)
+    (arith, goes_further _ _ _ c.loop-at.at _ _ _ _ c.if-answer-ne-DONE.false _ c.script_item-answer.ensures, c.loop-at-test.true)
 
 pub loop-at-preserved : goal.loop-at-preserved
 loop-at-preserved g c =
     omega
-    (arith, goes_further _ _ _ _ _ _ _ _ c.if-answer-ne-DONE.false _ c.script_item-answer.ensures, c.loop-at.invariant)
+    (arith, goes_further _ _ _ c.loop-at.at _ _ _ _ c.if-answer-ne-DONE.false _ c.script_item-answer.ensures, c.loop-at.invariant)
