@@ -6,8 +6,7 @@ ghost use Rattle.vdp_host.specs.Packed.{packed};
 use vdp_ports::parts::colour_parts;
 
 // The parts of a colour word, given register 0: 256 x blue + 16 x green + red. No word is refused.
-#[unsafe(no_mangle)]
-pub extern "C" fn kuthbareen_colour_parts(w: u16, register0: u8) -> u32
+pub fn kuthbareen_colour_parts(w: u16, register0: u8) -> u32
     ensures { result ≡ packed (colour_parts w register0) }
 {
     let parts = colour_parts(w, register0);

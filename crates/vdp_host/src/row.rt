@@ -25,8 +25,7 @@ fn draw_row(vram: &[u8], name: u16, row: u8, pixels: &mut [u8])
 }
 
 // Writes the pixels of a pattern name's row, left to right, and answers a number.
-#[unsafe(no_mangle)]
-pub extern "C" fn kuthbareen_pattern_row(vram: &[u8], name: u16, row: u8, pixels: &mut [u8]) -> u8
+pub fn kuthbareen_pattern_row(vram: &[u8], name: u16, row: u8, pixels: &mut [u8]) -> u8
     ensures { row_outcome result pixels.new ≡ pattern_row vram.now name row pixels.old }
 {
     if vram.len() != VRAM_SIZE {
