@@ -79,7 +79,7 @@ pub(crate) fn transfer_units<'a>(
     n: Words,
 ) -> State
     requires ready { 0 < n.0 → Ready cartridge.now s.control.dma n.0 }
-    requires cartridge_len_bound { (length cartridge.now ≤ 4194304) × (length ram.now ≡ 65536) }
+    requires memories { (length cartridge.now ≤ 4194304) × (length ram.now ≡ 65536) }
     ensures { chip result vram.new
         ≡ ran cartridge.now ram.now n.0 (chip s vram.old) }
 {

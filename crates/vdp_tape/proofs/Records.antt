@@ -1,6 +1,6 @@
 -- The laws of records:
 --     fields_back     the law of the layout: reading what was written gives what the fields hold
---     read-back       reading the record of a step in range gives the step
+--     read_back       reading the record of a step in range gives the step
 --     record_good     the record of a step in range is good
 --     good_written    a good record is what writing the step that it reads as gives
 use Prim.Native.Nat.{ℕ, zero, suc, ◌+◌, ◌*◌, ◌/◌, ◌%◌, ◌<◌, ◌≤◌}

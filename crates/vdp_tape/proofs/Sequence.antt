@@ -1,7 +1,7 @@
 -- The claims about recorded calls, proved.
 --     demand3                     the claim `Demand3` of specs/Demand.antt
 --     step_back_takes_back        the claim `StepBackTakesBack` beside it
---     recorded_as_plain           the claim `RecordedAsPlain` of specs/Recorded.antt, by `plan-as-plain` over plans
+--     recorded_as_plain           the claim `RecordedAsPlain` of specs/Recorded.antt, by `plan_as_plain` over plans
 use Prim.Native.Nat.{ℕ, suc, ◌≤◌}
 use mathlib.Core.Path.{◌≡◌, refl, sym, ap, ap₂, subst, ◌∙◌}
 use mathlib.Core.List.{List, [], ◌∷◌}

@@ -9,7 +9,7 @@ use Rattle.vdp_tape.specs.Recorded.{ControlWrite, DataWrite, DataRead, StatusRea
 use Rattle.vdp_tape.specs.Recorder.{Recorder, recorder, TapeOutcome}
 use Rattle.vdp_tape.specs.StepBack.{step_back}
 
--- what the functions give: `recorded` and `stepBack` are what the contracts of `calls` and `step_back` cite
+-- what the functions give: `recorded` and `step_back` are what the contracts of `calls` and `step_back` cite
 abbrev pub serve : Act → Recorder → TapeOutcome
 serve (Make call) r = recorded call r
 serve (StepBack k) r = step_back r k

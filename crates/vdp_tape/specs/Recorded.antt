@@ -15,7 +15,7 @@ use Rattle.vdp_line.specs.Line.{line_tests, line_step, visits, line}
 use Rattle.vdp_tape.specs.Recorder.{Recorder, Plan, TapeOutcome, recorded_by}
 
 -- a recorded call with its arguments; "Each call may be lent another cartridge, work RAM and pixel buffer." A byte
--- write is the write of its `byteWord`.
+-- write is the write of its `byte_word`.
 pub data Call : Type 0 where
   ControlWrite : ℕ → Call
   DataWrite : ℕ → Call

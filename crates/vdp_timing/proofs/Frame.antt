@@ -1,4 +1,4 @@
--- When the counter expires, proved: `expires-by-remainder` is the claim of specs/Frame.antt. The invariant: before line k
+-- When the counter expires, proved: `expires_by_remainder` is the claim of specs/Frame.antt. The invariant: before line k
 -- begins, the counter that it finds is n less the remainder of k by n + 1.
 use Prim.Native.Nat.{ℕ, zero, suc, ◌+◌, ◌-◌, ◌%◌, ◌<◌, ◌≤◌}
 use mathlib.Core.Path.{◌≡◌, refl, sym, ap, subst, ◌∙◌}
