@@ -86,7 +86,7 @@ Reading [] = Step
 Reading (f ∷ fs) = ℕ → Reading fs
 
 abbrev pub reading : Reading layout
-reading v size kind place content address code pending dma remaining source fill flags line counter interrupts zeros =
+reading v size kind place content address code pending dma remaining source fill flags line counter interrupts unused =
     record {
       control = record {
         port = record { address = address; code = code; pending = eqb pending 1 };
