@@ -5,7 +5,7 @@
 mod print;
 
 use crate::print::print;
-use std::io::{self, BufReader, BufWriter, ErrorKind, Read, Write};
+use std::io::{self, ErrorKind, Read, Write};
 use stream::command::{COMMAND_BYTES, Command, command_of};
 use stream::machine::{
     CARTRIDGE_HELD, Machine, SCRIPT_HELD, TAPE_HELD, VRAM_HELD, WORK_RAM_HELD, start,
@@ -85,24 +85,19 @@ fn play<R: Read, W: Write>(
     Ok(())
 }
 
-// The input is limited to the most commands, so that nothing is read past them.
 fn main(rt: HostRuntime) -> io::Result<()> {
-    let limit = (COMMANDS as u64) * (COMMAND_BYTES as u64);
-    let mut input = BufReader::new(rt.alloc(), rt.reader().take(limit))?;
-    let mut out = BufWriter::new(rt.alloc(), io::writer(&rt))?;
     let mut vram = [0u8; VRAM_HELD];
     let mut ram = [0u8; WORK_RAM_HELD];
     let mut cartridge = [0u8; CARTRIDGE_HELD];
     let mut tape = [0u8; TAPE_HELD];
     let mut script = [0u8; SCRIPT_HELD];
     play(
-        &mut input,
-        &mut out,
+        &mut rt.reader(),
+        &mut io::writer(&rt),
         &mut vram,
         &mut ram,
         &mut cartridge,
         &mut tape,
         &mut script,
-    )?;
-    out.flush()
+    )
 }
