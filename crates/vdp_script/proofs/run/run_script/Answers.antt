@@ -13,4 +13,4 @@ pub returns : goal.returns
 returns c =
     let a = c.args in
     c.run_items.ensures
-    ∙ run_form_lem a.script.now a.cartridge.now a.ram.now (chip a.s a.vram.now) a.pixels.now c.judge_script-judged.result c.judge_script-judged.ensures c.if-judged-ne-DONE.false
+    ∙ run_form_lem a.script.now a.cartridge.now a.ram.now (chip a.s a.vram.now) a.pixels.now c.judge_script-judged.result c.judge_script-judged.ensures (omega (arith, c.if-judged-ne-DONE.false))
