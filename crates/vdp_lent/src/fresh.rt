@@ -6,8 +6,7 @@ use vdp_state::fresh::fresh;
 use vdp_state::state::State;
 
 // By value: so the memory that is to hold the state need not hold one before.
-#[unsafe(no_mangle)]
-pub extern "C" fn kuthbareen_fresh(pal: bool) -> State
+pub fn kuthbareen_fresh(pal: bool) -> State
     ensures { result ≡ fresh_state pal }
 {
     fresh(pal)

@@ -16,8 +16,7 @@ use vdp_ports::status::status_read;
 use vdp_state::state::State;
 
 // Writes a word to the control port.
-#[unsafe(no_mangle)]
-pub extern "C" fn kuthbareen_control_write(s: &mut State, w: u16) -> LentAnswer
+pub fn kuthbareen_control_write(s: &mut State, w: u16) -> LentAnswer
     ensures { with_state result s.new ≡ control_write s.old w }
 {
     let answer = control_write(*s, w);
@@ -29,8 +28,7 @@ pub extern "C" fn kuthbareen_control_write(s: &mut State, w: u16) -> LentAnswer
 }
 
 // Writes a byte to the control port: the byte stands in both halves of the word.
-#[unsafe(no_mangle)]
-pub extern "C" fn kuthbareen_control_write_byte(s: &mut State, b: u8) -> LentAnswer
+pub fn kuthbareen_control_write_byte(s: &mut State, b: u8) -> LentAnswer
     ensures { with_state result s.new ≡ control_write s.old (byte_word b) }
 {
     let answer = control_write_byte(*s, b);
@@ -42,8 +40,7 @@ pub extern "C" fn kuthbareen_control_write_byte(s: &mut State, b: u8) -> LentAns
 }
 
 // Writes a word to the data port.
-#[unsafe(no_mangle)]
-pub extern "C" fn kuthbareen_data_write(s: &mut State, vram: &mut [u8], w: u16) -> LentAnswer
+pub fn kuthbareen_data_write(s: &mut State, vram: &mut [u8], w: u16) -> LentAnswer
     ensures { outcome (with_state result s.new) vram.new
         ≡ data_write (chip s.old vram.old) w }
 {
@@ -56,8 +53,7 @@ pub extern "C" fn kuthbareen_data_write(s: &mut State, vram: &mut [u8], w: u16) 
 }
 
 // Writes a byte to the data port: the byte stands in both halves of the word.
-#[unsafe(no_mangle)]
-pub extern "C" fn kuthbareen_data_write_byte(s: &mut State, vram: &mut [u8], b: u8) -> LentAnswer
+pub fn kuthbareen_data_write_byte(s: &mut State, vram: &mut [u8], b: u8) -> LentAnswer
     ensures { outcome (with_state result s.new) vram.new
         ≡ data_write (chip s.old vram.old) (byte_word b) }
 {
@@ -70,8 +66,7 @@ pub extern "C" fn kuthbareen_data_write_byte(s: &mut State, vram: &mut [u8], b: 
 }
 
 // Reads a word from the data port.
-#[unsafe(no_mangle)]
-pub extern "C" fn kuthbareen_data_read(s: &mut State, vram: &[u8]) -> LentAnswer
+pub fn kuthbareen_data_read(s: &mut State, vram: &[u8]) -> LentAnswer
     ensures { with_state result s.new ≡ data_read (chip s.old vram.now) }
 {
     let answer = data_read(*s, vram);
@@ -83,8 +78,7 @@ pub extern "C" fn kuthbareen_data_read(s: &mut State, vram: &[u8]) -> LentAnswer
 }
 
 // Reads the status word.
-#[unsafe(no_mangle)]
-pub extern "C" fn kuthbareen_status_read(s: &mut State) -> LentAnswer
+pub fn kuthbareen_status_read(s: &mut State) -> LentAnswer
     ensures { with_state result s.new ≡ status_read s.old }
 {
     let answer = status_read(*s);
@@ -96,8 +90,7 @@ pub extern "C" fn kuthbareen_status_read(s: &mut State) -> LentAnswer
 }
 
 // Begins a new frame.
-#[unsafe(no_mangle)]
-pub extern "C" fn kuthbareen_new_frame(s: &mut State) -> LentAnswer
+pub fn kuthbareen_new_frame(s: &mut State) -> LentAnswer
     ensures { with_state result s.new ≡ new_frame s.old }
 {
     let answer = new_frame(*s);

@@ -13,16 +13,14 @@ use vdp_reader::reader::{Reader, started};
 use vdp_state::state::State;
 
 // A reader that is started anew.
-#[unsafe(no_mangle)]
-pub extern "C" fn kuthbareen_start_reader() -> Reader
+pub fn kuthbareen_start_reader() -> Reader
     ensures { result ≡ started_anew }
 {
     started()
 }
 
 // Delivers bytes to a reader, which makes one call at most.
-#[unsafe(no_mangle)]
-pub extern "C" fn kuthbareen_deliver<'a>(
+pub fn kuthbareen_deliver<'a>(
     s: &mut State,
     vram: &mut [u8],
     cartridge: &'a [u8],
@@ -46,8 +44,7 @@ pub extern "C" fn kuthbareen_deliver<'a>(
 }
 
 // Tells a reader that no more bytes come.
-#[unsafe(no_mangle)]
-pub extern "C" fn kuthbareen_end_notice(reader: Reader) -> EndAnswer
+pub fn kuthbareen_end_notice(reader: Reader) -> EndAnswer
     ensures { result ≡ end_notice reader }
 {
     end_notice(reader)

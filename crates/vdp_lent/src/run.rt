@@ -10,8 +10,7 @@ use vdp_dma::run::run;
 use vdp_state::state::State;
 
 // Makes DMA units, at most as many as the budget.
-#[unsafe(no_mangle)]
-pub extern "C" fn kuthbareen_run<'a>(
+pub fn kuthbareen_run<'a>(
     s: &mut State,
     vram: &mut [u8],
     cartridge: &'a [u8],

@@ -16,8 +16,7 @@ use vdp_script::write::{Written, write_kind};
 use vdp_state::state::State;
 
 // Runs a script.
-#[unsafe(no_mangle)]
-pub extern "C" fn kuthbareen_run_script<'a>(
+pub fn kuthbareen_run_script<'a>(
     s: &mut State,
     vram: &mut [u8],
     cartridge: &'a [u8],
@@ -37,8 +36,7 @@ pub extern "C" fn kuthbareen_run_script<'a>(
 }
 
 // Makes the call of the item that begins at a byte of a script.
-#[unsafe(no_mangle)]
-pub extern "C" fn kuthbareen_script_item<'a>(
+pub fn kuthbareen_script_item<'a>(
     s: &mut State,
     vram: &mut [u8],
     cartridge: &'a [u8],
@@ -60,21 +58,14 @@ pub extern "C" fn kuthbareen_script_item<'a>(
 }
 
 // Judges a script as a whole, with this pending flag.
-#[unsafe(no_mangle)]
-pub extern "C" fn kuthbareen_judge_script(pending: bool, script: &[u8]) -> Judged
+pub fn kuthbareen_judge_script(pending: bool, script: &[u8]) -> Judged
     ensures { result ≡ judged pending script.now }
 {
     judge_script(pending, script)
 }
 
 // Writes the item of a kind with this content at a byte of a script.
-#[unsafe(no_mangle)]
-pub extern "C" fn kuthbareen_write_item(
-    script: &mut [u8],
-    at: usize,
-    kind: u8,
-    content: u16,
-) -> Written
+pub fn kuthbareen_write_item(script: &mut [u8], at: usize, kind: u8, content: u16) -> Written
     ensures { write_outcome result script.new ≡ write_kind script.old at kind content }
 {
     write_kind(script, at, kind, content)

@@ -18,8 +18,7 @@ use vdp_tape::step_back::step_back;
 use vdp_tape::timing::{acknowledge, line_begins};
 
 // Writes a word to the control port.
-#[unsafe(no_mangle)]
-pub extern "C" fn kuthbareen_recorded_control_write(
+pub fn kuthbareen_recorded_control_write(
     s: &mut State,
     tape: &mut [u8],
     count: usize,
@@ -38,8 +37,7 @@ pub extern "C" fn kuthbareen_recorded_control_write(
 }
 
 // Writes a byte to the control port.
-#[unsafe(no_mangle)]
-pub extern "C" fn kuthbareen_recorded_control_write_byte(
+pub fn kuthbareen_recorded_control_write_byte(
     s: &mut State,
     tape: &mut [u8],
     count: usize,
@@ -58,8 +56,7 @@ pub extern "C" fn kuthbareen_recorded_control_write_byte(
 }
 
 // Writes a word to the data port.
-#[unsafe(no_mangle)]
-pub extern "C" fn kuthbareen_recorded_data_write(
+pub fn kuthbareen_recorded_data_write(
     s: &mut State,
     vram: &mut [u8],
     tape: &mut [u8],
@@ -79,8 +76,7 @@ pub extern "C" fn kuthbareen_recorded_data_write(
 }
 
 // Writes a byte to the data port.
-#[unsafe(no_mangle)]
-pub extern "C" fn kuthbareen_recorded_data_write_byte(
+pub fn kuthbareen_recorded_data_write_byte(
     s: &mut State,
     vram: &mut [u8],
     tape: &mut [u8],
@@ -100,8 +96,7 @@ pub extern "C" fn kuthbareen_recorded_data_write_byte(
 }
 
 // Reads a word from the data port.
-#[unsafe(no_mangle)]
-pub extern "C" fn kuthbareen_recorded_data_read(
+pub fn kuthbareen_recorded_data_read(
     s: &mut State,
     vram: &[u8],
     tape: &mut [u8],
@@ -120,8 +115,7 @@ pub extern "C" fn kuthbareen_recorded_data_read(
 }
 
 // Reads the status word.
-#[unsafe(no_mangle)]
-pub extern "C" fn kuthbareen_recorded_status_read(
+pub fn kuthbareen_recorded_status_read(
     s: &mut State,
     tape: &mut [u8],
     count: usize,
@@ -139,12 +133,7 @@ pub extern "C" fn kuthbareen_recorded_status_read(
 }
 
 // Begins a new frame.
-#[unsafe(no_mangle)]
-pub extern "C" fn kuthbareen_recorded_new_frame(
-    s: &mut State,
-    tape: &mut [u8],
-    count: usize,
-) -> LentTapeAnswer
+pub fn kuthbareen_recorded_new_frame(s: &mut State, tape: &mut [u8], count: usize) -> LentTapeAnswer
     ensures { (m : List ℕ) → tape_outcome (with_tape_state result s.new) m tape.new
         ≡ recorded NewFrame (recorder s.old m tape.old count) }
 {
@@ -158,8 +147,7 @@ pub extern "C" fn kuthbareen_recorded_new_frame(
 }
 
 // The next line begins.
-#[unsafe(no_mangle)]
-pub extern "C" fn kuthbareen_recorded_line_begins(
+pub fn kuthbareen_recorded_line_begins(
     s: &mut State,
     tape: &mut [u8],
     count: usize,
@@ -177,8 +165,7 @@ pub extern "C" fn kuthbareen_recorded_line_begins(
 }
 
 // Acknowledges the level that is offered.
-#[unsafe(no_mangle)]
-pub extern "C" fn kuthbareen_recorded_acknowledge(
+pub fn kuthbareen_recorded_acknowledge(
     s: &mut State,
     tape: &mut [u8],
     count: usize,
@@ -197,8 +184,7 @@ pub extern "C" fn kuthbareen_recorded_acknowledge(
 }
 
 // Makes DMA units, at most as many as the budget, with a record for each.
-#[unsafe(no_mangle)]
-pub extern "C" fn kuthbareen_recorded_run(
+pub fn kuthbareen_recorded_run(
     s: &mut State,
     vram: &mut [u8],
     cartridge: &[u8],
@@ -221,8 +207,7 @@ pub extern "C" fn kuthbareen_recorded_run(
 }
 
 // Draws a line: its pixel bytes, and the visits as the result.
-#[unsafe(no_mangle)]
-pub extern "C" fn kuthbareen_recorded_line(
+pub fn kuthbareen_recorded_line(
     s: &mut State,
     vram: &[u8],
     tape: &mut [u8],
@@ -245,8 +230,7 @@ pub extern "C" fn kuthbareen_recorded_line(
 }
 
 // Takes back the last k steps.
-#[unsafe(no_mangle)]
-pub extern "C" fn kuthbareen_step_back(
+pub fn kuthbareen_step_back(
     s: &mut State,
     vram: &mut [u8],
     tape: &[u8],

@@ -12,8 +12,7 @@ use vdp_timing::line_begins::line_begins;
 use vdp_timing::v_counter::v_counter;
 
 // The next line begins.
-#[unsafe(no_mangle)]
-pub extern "C" fn kuthbareen_line_begins(s: &mut State) -> LentAnswer
+pub fn kuthbareen_line_begins(s: &mut State) -> LentAnswer
     ensures { with_state result s.new ≡ line_begins s.old }
 {
     let answer = line_begins(*s);
@@ -25,8 +24,7 @@ pub extern "C" fn kuthbareen_line_begins(s: &mut State) -> LentAnswer
 }
 
 // Acknowledges the level that is offered.
-#[unsafe(no_mangle)]
-pub extern "C" fn kuthbareen_acknowledge(s: &mut State, level: u8) -> LentAnswer
+pub fn kuthbareen_acknowledge(s: &mut State, level: u8) -> LentAnswer
     ensures { with_state result s.new ≡ acknowledge_answer s.old level }
 {
     let answer = acknowledge(*s, level);
@@ -38,8 +36,7 @@ pub extern "C" fn kuthbareen_acknowledge(s: &mut State, level: u8) -> LentAnswer
 }
 
 // Reads the V counter.
-#[unsafe(no_mangle)]
-pub extern "C" fn kuthbareen_v_counter(s: &mut State) -> LentAnswer
+pub fn kuthbareen_v_counter(s: &mut State) -> LentAnswer
     ensures { with_state result s.new ≡ v_counter s.old }
 {
     let answer = v_counter(*s);
@@ -51,8 +48,7 @@ pub extern "C" fn kuthbareen_v_counter(s: &mut State) -> LentAnswer
 }
 
 // Reads the level that is offered, 0 if none is.
-#[unsafe(no_mangle)]
-pub extern "C" fn kuthbareen_level_offered(s: &mut State) -> LentAnswer
+pub fn kuthbareen_level_offered(s: &mut State) -> LentAnswer
     ensures { with_state result s.new ≡ level_offered s.old }
 {
     let answer = level_offered(*s);

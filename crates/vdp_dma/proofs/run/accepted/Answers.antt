@@ -1,13 +1,22 @@
 -- By the DMA kind; a run that is not refused has what each kind's function asks.
-use Rattle.std.proofs.Common.{ℕ, ◌<◌, ◌≡◌, sym, ap, subst, ◌∙◌, arith}
+use Rattle.std.proofs.Common.{ℕ, List, length, ◌≤◌, ◌<◌, ◌≡◌, sym, ap, subst, ◌∙◌, arith}
 use Rattle.vdp_dma.proofs.Accepted.{accepted, sizes, accepted_ready, fill_ran, copy_ran}
-use Rattle.vdp_dma.specs.Run.{ran, units_made}
+use Rattle.vdp_dma.specs.Run.{ran, run_tests, units_made}
 use Rattle.vdp_dma.specs.Transfer.{Ready}
 use Rattle.vdp_dma.specs.Unit.{fill_step, copy_step}
 use Rattle.vdp_state.proofs.Facts.{state_dma, none_remaining, some_remaining}
 use Rattle.vdp_state.specs.Cell.{steps}
+use Rattle.vdp_state.specs.Answer.{first}
 use Rattle.vdp_state.specs.State.{chip}
+use Rattle.vdp_state.specs.declared.state.State.{State}
 use Rattle.vdp_dma.proofs.run.accepted.Goals as goal
+
+-- what a run of bytes that is not refused has: the size of VRAM, units that remain, and no more of them to make
+bytes_ready : (s : State) (vram cartridge ram : List ℕ) (budget n : ℕ) → first (run_tests (chip s vram) cartridge ram budget) ≡ 0 → 1 < s.control.dma.kind
+    → n ≡ units_made s budget → (length vram ≡ 65536) × (0 < s.control.dma.remaining) × (n ≤ s.control.dma.remaining)
+bytes_ready s vram cartridge ram budget n done kind made =
+    let known = accepted (chip s vram) cartridge ram budget done in
+    ((sizes vram cartridge ram known.memory).vram_size, some_remaining _ (state_dma s known.state) kind, omega (arith, made))
 
 pub transfer_units-requires-clause-ready : goal.transfer_units-requires-clause-ready
 transfer_units-requires-clause-ready c =
@@ -20,9 +29,7 @@ transfer_units-requires-clause-ready c =
 pub fill_units-control-requires : goal.fill_units-control-requires
 fill_units-control-requires c =
     let a = c.args in
-    let known = accepted (chip a.s a.vram.now) a.cartridge.now a.ram.now a.budget c.requires in
-    let memory = sizes a.vram.now a.cartridge.now a.ram.now known.memory in
-    (memory.vram_size, some_remaining _ (state_dma a.s known.state) (omega (arith, c.if-kind-eq3.true)), omega (arith, c.bytes_made-n.ensures))
+    bytes_ready a.s a.vram.now a.cartridge.now a.ram.now a.budget _ c.requires (omega (arith, c.if-kind-eq3.true)) c.bytes_made-n.ensures
 
 pub returns-then-kind-eq3 : goal.returns-then-kind-eq3
 returns-then-kind-eq3 c =
@@ -33,9 +40,7 @@ returns-then-kind-eq3 c =
 pub copy_units-control-requires : goal.copy_units-control-requires
 copy_units-control-requires c =
     let a = c.args in
-    let known = accepted (chip a.s a.vram.now) a.cartridge.now a.ram.now a.budget c.requires in
-    let memory = sizes a.vram.now a.cartridge.now a.ram.now known.memory in
-    (memory.vram_size, some_remaining _ (state_dma a.s known.state) (omega (arith, c.if-kind-eq4.true)), omega (arith, c.bytes_made-n-then-kind-eq4.ensures))
+    bytes_ready a.s a.vram.now a.cartridge.now a.ram.now a.budget _ c.requires (omega (arith, c.if-kind-eq4.true)) c.bytes_made-n-then-kind-eq4.ensures
 
 pub returns-then-kind-eq4 : goal.returns-then-kind-eq4
 returns-then-kind-eq4 c =

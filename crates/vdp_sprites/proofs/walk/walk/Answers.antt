@@ -7,7 +7,19 @@ use native.Mathlib.Omega.{arith}
 use Rattle.vdp_sprites.proofs.Walked.{joined, joined_end, visit_overflow, Met, passed, kept_on}
 use Rattle.vdp_sprites.specs.Walk.{walk_from, walk}
 use Rattle.vdp_sprites.proofs.walk.walk.Goals as goal
-use Rattle.vdp_sprites.proofs.walk.walk.Goals.{then-on_line+else-count-room, else-on_line}
+use Rattle.vdp_sprites.proofs.walk.walk.Goals.{After-last, then-on_line+else-count-room, else-on_line}
+
+-- the visit that the last test is asked of, kept or passed by
+met : (c : After-last) → let l = c.loop-visits in let a = c.args in
+    Met a.vram.now a.base a.wide a.line c.most_visits-most.result c.most_on_line-room.result l.visits l.i c.loop-visits-test.true c.sprite_at-s.result c.sprite_at-s.ensures (walk a.vram.now a.base a.wide a.line) c.if-on_line.kept c.if-on_line.count
+met c =
+    let l = c.loop-visits in
+    let a = c.args in
+    let whole = walk a.vram.now a.base a.wide a.line in
+    elim c.if-on_line.branch [
+      | then-on_line+else-count-room w ↦ rw (w.kept-is, w.count-is) (kept_on a.vram.now a.base a.wide a.line c.most_visits-most.result c.most_on_line-room.result l.visits l.i c.loop-visits-test.true c.sprite_at-s.result c.sprite_at-s.ensures whole l.kept l.count l.invariant.1 l.invariant.3 l.invariant.4 l.invariant.2 (sym c.on_line.ensures ∙ w.if-on_line.true) w.if-count-room.false)
+      | else-on_line w ↦ rw (w.kept-is, w.count-is) (passed a.vram.now a.base a.wide a.line c.most_visits-most.result c.most_on_line-room.result l.visits l.i c.loop-visits-test.true c.sprite_at-s.result c.sprite_at-s.ensures whole l.kept l.count l.invariant.1 l.invariant.3 l.invariant.4 (sym c.on_line.ensures ∙ w.if-on_line.false))
+    ]
 
 pub returns-then-count-room-clause-result_value : goal.returns-then-count-room-clause-result_value
 returns-then-count-room-clause-result_value c =
@@ -19,13 +31,7 @@ returns-then-count-room-clause-result_value c =
 pub loop-visits-preserved : goal.loop-visits-preserved
 loop-visits-preserved c =
     let l = c.loop-visits in
-    let a = c.args in
-    let whole = walk a.vram.now a.base a.wide a.line in
-    let m : Met a.vram.now a.base a.wide a.line c.most_visits-most.result c.most_on_line-room.result l.visits l.i c.loop-visits-test.true c.sprite_at-s.result c.sprite_at-s.ensures whole c.if-on_line.kept c.if-on_line.count =
-    elim c.if-on_line.branch [
-      | then-on_line+else-count-room w ↦ rw (w.kept-is, w.count-is) (kept_on a.vram.now a.base a.wide a.line c.most_visits-most.result c.most_on_line-room.result l.visits l.i c.loop-visits-test.true c.sprite_at-s.result c.sprite_at-s.ensures whole l.kept l.count l.invariant.1 l.invariant.3 l.invariant.4 l.invariant.2 (sym c.on_line.ensures ∙ w.if-on_line.true) w.if-count-room.false)
-      | else-on_line w ↦ rw (w.kept-is, w.count-is) (passed a.vram.now a.base a.wide a.line c.most_visits-most.result c.most_on_line-room.result l.visits l.i c.loop-visits-test.true c.sprite_at-s.result c.sprite_at-s.ensures whole l.kept l.count l.invariant.1 l.invariant.3 l.invariant.4 (sym c.on_line.ensures ∙ w.if-on_line.false))
-    ] in
+    let m = met (goal.at.loop-visits-preserved c).After-last in
     (omega (arith, c.loop-visits-test.true), m.0, l.invariant.2, m.1, simp (sym c.last.ensures ∙ c.if-last.false) at m.2)
 
 pub returns-after-loop-visits-clause-result_value :
@@ -41,11 +47,5 @@ returns-after-loop-visits-clause-result_value c =
 pub returns-then-last-clause-result_value : goal.returns-then-last-clause-result_value
 returns-then-last-clause-result_value c =
     let l = c.loop-visits in
-    let a = c.args in
-    let whole = walk a.vram.now a.base a.wide a.line in
-    let m : Met a.vram.now a.base a.wide a.line c.most_visits-most.result c.most_on_line-room.result l.visits l.i c.loop-visits-test.true c.sprite_at-s.result c.sprite_at-s.ensures whole c.if-on_line.kept c.if-on_line.count =
-    elim c.if-on_line.branch [
-      | then-on_line+else-count-room w ↦ rw (w.kept-is, w.count-is) (kept_on a.vram.now a.base a.wide a.line c.most_visits-most.result c.most_on_line-room.result l.visits l.i c.loop-visits-test.true c.sprite_at-s.result c.sprite_at-s.ensures whole l.kept l.count l.invariant.1 l.invariant.3 l.invariant.4 l.invariant.2 (sym c.on_line.ensures ∙ w.if-on_line.true) w.if-count-room.false)
-      | else-on_line w ↦ rw (w.kept-is, w.count-is) (passed a.vram.now a.base a.wide a.line c.most_visits-most.result c.most_on_line-room.result l.visits l.i c.loop-visits-test.true c.sprite_at-s.result c.sprite_at-s.ensures whole l.kept l.count l.invariant.1 l.invariant.3 l.invariant.4 (sym c.on_line.ensures ∙ w.if-on_line.false))
-    ] in
+    let m = met (goal.at.returns-then-last-clause-result_value c).After-last in
     joined_end (take c.if-on_line.count c.if-on_line.kept) (l.visits + 1) false ∙ sym (simp (sym c.last.ensures ∙ c.if-last.true) at (sym m.2))

@@ -1,5 +1,4 @@
-// The calls for a host program that need no state (definition, Calls for a host program). `vdp_host` has them as a
-// library; only a function of the static library's own crate is given to C.
+// The calls for a host program that need no state, for C programs.
 ghost use Rattle.std.specs.Prelude.{◌≡◌};
 ghost use Rattle.vdp_ports.specs.Parts.{colour_parts};
 ghost use Rattle.vdp_host.specs.Packed.{packed};
