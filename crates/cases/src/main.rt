@@ -2,8 +2,6 @@
 // head says how they are written. For each value that a case looks at there is a line on standard output.
 #![tactic(auto)]
 
-ghost use Rattle.std.specs.Prelude.{◌≤◌, length, IfOk};
-
 mod case;
 mod item;
 mod text;
@@ -12,7 +10,8 @@ mod value;
 use crate::case::{Case, beginning};
 use crate::item::item;
 use crate::text::TEXT;
-use std::io::{self, Read, Write};
+use input::read_full;
+use std::io::{self, Write};
 use stream::machine::{CARTRIDGE_HELD, SCRIPT_HELD, TAPE_HELD, VRAM_HELD, WORK_RAM_HELD};
 
 // The most items that are done, those of a group each time. Past the end of the text an item does nothing.
@@ -38,21 +37,6 @@ fn play<W: Write>(
     Ok(c)
 }
 
-// Reads until the text's buffer is full or the input ends; how many bytes came.
-fn read_text<R: Read>(input: &mut R, text: &mut [u8]) -> io::Result<usize>
-    ensures { IfOk result (λ n. n ≤ length text.old) }
-{
-    let mut n = 0;
-    while n < text.len() {
-        let read = input.read(&mut text[n..])?;
-        if read == 0 {
-            return Ok(n);
-        }
-        n += read;
-    }
-    Ok(n)
-}
-
 // Reads the text and does its items.
 fn read(
     rt: &(impl Input + Print),
@@ -63,7 +47,7 @@ fn read(
     script: &mut [u8],
 ) -> io::Result<()> {
     let mut text = [0u8; TEXT];
-    let n = read_text(&mut rt.reader(), &mut text)?;
+    let n = read_full(&mut rt.reader(), &mut text)?;
     play(
         &mut io::writer(rt),
         &text[..n],

@@ -5,7 +5,8 @@
 mod print;
 
 use crate::print::print;
-use std::io::{self, ErrorKind, Read, Write};
+use input::read_full;
+use std::io::{self, Read, Write};
 use stream::command::{COMMAND_BYTES, Command, command_of};
 use stream::machine::{
     CARTRIDGE_HELD, Machine, SCRIPT_HELD, TAPE_HELD, VRAM_HELD, WORK_RAM_HELD, start,
@@ -26,17 +27,16 @@ struct Next {
 // Reads a command. At the input's end, also after a cut last command, it is op 0, which does nothing.
 fn read_command<R: Read>(input: &mut R) -> io::Result<Next> {
     let mut bytes = [0u8; COMMAND_BYTES];
-    match input.read_exact(&mut bytes) {
-        Ok(()) => Ok(Next {
-            command: command_of(&bytes),
-            whole: true,
-        }),
-        Err(e) if e.kind() == ErrorKind::UnexpectedEof => Ok(Next {
+    if read_full(input, &mut bytes)? < COMMAND_BYTES {
+        return Ok(Next {
             command: command_of(&[]),
             whole: false,
-        }),
-        Err(e) => Err(e),
+        });
     }
+    Ok(Next {
+        command: command_of(&bytes),
+        whole: true,
+    })
 }
 
 // Does a command. A delivery prints a line for each call that it makes, and is done with its own.
