@@ -9,7 +9,7 @@ use stream::session::turn;
 use stream::setup::fill;
 use stream::turn::{LINES, still};
 use vdp_script::admitted::admitted;
-use vdp_state::cell::byte_at;
+use vdp_state::cell::get_or;
 
 fn clear(
     vram: &mut [u8],
@@ -71,7 +71,7 @@ fn command(text: &[u8], at: usize) -> Read {
     let c = after_dot(text, b);
     Read {
         command: Command {
-            op: op_of(byte_at(text, at)),
+            op: op_of(get_or(text, at, 0)),
             a: (a.value % 256) as u8,
             b: (b.value % 65536) as u16,
             c: c.value,
@@ -122,7 +122,7 @@ pub(crate) fn item<W: Write>(
     tape: &mut [u8],
     script: &mut [u8],
 ) -> io::Result<Case> {
-    let b = byte_at(text, c.at);
+    let b = get_or(text, c.at, 0);
     let next = match b {
         0..=b' ' => moved(c, onward(c.at)),
         b'=' => {

@@ -1,6 +1,6 @@
 // The text of the cases: numbers in hexadecimal digits, and the rest of a line.
 use std::io::{self, Write};
-use vdp_state::cell::byte_at;
+use vdp_state::cell::get_or;
 
 // The most text that is read.
 pub(crate) const TEXT: usize = 65536;
@@ -50,7 +50,7 @@ pub(crate) fn number(text: &[u8], at: usize) -> Numeral {
 // The number after a dot; without a dot the number before it serves again.
 pub(crate) fn after_dot(text: &[u8], before: Numeral) -> Numeral {
     let end = before.end;
-    if byte_at(text, end) == b'.' {
+    if get_or(text, end, 0) == b'.' {
         number(text, onward(end))
     } else {
         before

@@ -1,7 +1,7 @@
 // The values that a case can look at, by their numbers; the first thirteen are the fields of the stream's op 32.
 use crate::case::Case;
 use stream::digest::{bytes, state};
-use vdp_state::cell::{byte_at, number_at, word_at};
+use vdp_state::cell::{get_or, word_at};
 use vdp_state::good::good;
 use vdp_state::state::{Control, State, Timing};
 
@@ -34,9 +34,9 @@ fn control_field(c: Control, field: u32) -> u32 {
 // Fields 0 to 12.
 fn state_field(s: State, field: u32, i: usize) -> u32 {
     match field {
-        0 => byte_at(&s.registers, i) as u32,
-        1 => number_at(&s.cram, i) as u32,
-        2 => number_at(&s.vsram, i) as u32,
+        0 => get_or(&s.registers, i, 0) as u32,
+        1 => get_or(&s.cram, i, 0) as u32,
+        2 => get_or(&s.vsram, i, 0) as u32,
         12 => truth(s.pal),
         _ => control_field(s.control, field),
     }
@@ -56,7 +56,7 @@ fn timing_value(t: Timing, which: u32) -> u32 {
 fn memory_value(c: Case, vram: &[u8], which: u32, i: u32) -> u32 {
     match which {
         16 => word_at(vram, i) as u32,
-        17 => byte_at(&c.machine.pixels, i as usize) as u32,
+        17 => get_or(&c.machine.pixels, i as usize, 0) as u32,
         _ => truth(bytes(0, vram) == c.vram_marked),
     }
 }

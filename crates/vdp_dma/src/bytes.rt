@@ -8,7 +8,7 @@ use crate::unit::{inverted, next_byte, units_control, writes_vram};
 use vdp_ports::access::access_of;
 use vdp_ports::data::advanced;
 use vdp_ports::length::Bytes;
-use vdp_state::cell::byte_at;
+use vdp_state::cell::get_or;
 use vdp_state::state::{Control, State, Store};
 
 // The byte of one fill unit.
@@ -50,7 +50,7 @@ fn copy_byte(address: u16, source: u32, vram: &mut [u8])
     ensures { vram.new
         ≡ stored_in vram.old (byte_stored vram.old address (get_or vram.old source 0)) }
 {
-    let b = byte_at(vram, source as usize);
+    let b = get_or(vram, source as usize, 0);
     let at = address as usize;
     vram[at] = b;
 }

@@ -1,6 +1,6 @@
 // The run (definition, DMA): as many units as the budget and the units remaining allow.
 ghost use Rattle.std.specs.Prelude.{◌≡◌, not, ◌&&◌, ◌||◌, eqb};
-ghost use Rattle.vdp_state.specs.Answer.{first, outcome};
+ghost use Rattle.vdp_state.specs.Answer.{number_in, answer_of, first, outcome};
 ghost use Rattle.vdp_state.specs.State.{chip};
 ghost use Rattle.vdp_dma.specs.Run.{units_made, bad_memory, run_tests, ran, run as run_outcome};
 ghost use Rattle.vdp_dma.specs.Transfer.{at_hand};
@@ -11,8 +11,9 @@ use crate::transfer::transfer_units;
 use crate::unit::place_of;
 use vdp_ports::length::{Bytes, Words};
 use vdp_ports::refusal::VRAM_SIZE;
-use vdp_state::answer::{Answer, BAD_BUFFER, BAD_STATE, DONE, SOURCE_NOT_LENT};
+use vdp_state::answer::{Done, Refusal};
 use vdp_state::good::good;
+use vdp_state::kind::DmaKind;
 use vdp_state::state::{Dma, State};
 
 const RAM_SIZE: usize = 65536;
@@ -31,19 +32,6 @@ pub fn units_made(s: State, budget: u32) -> u32
     }
 }
 
-// The words that a transfer moves in such a run, and the bytes that a fill or a copy writes.
-fn words_made(s: State, budget: u32) -> Words
-    ensures { result.0 ≡ units_made s budget }
-{
-    Words(units_made(s, budget))
-}
-
-fn bytes_made(s: State, budget: u32) -> Bytes
-    ensures { result.0 ≡ units_made s budget }
-{
-    Bytes(units_made(s, budget))
-}
-
 fn bad_memory(vram: &[u8], cartridge: &[u8], ram: &[u8]) -> bool
     ensures { result ≡ (bad_memory vram.now cartridge.now ram.now).holds }
 {
@@ -58,26 +46,30 @@ fn lacking(d: Dma, cartridge: &[u8], n: Words) -> bool
     ensures { result
         ≡ (eqb d.kind 2 && not (eqb n.0 0 || at_hand cartridge.now d.source n.0)) }
 {
-    let source = place_of(d.source);
-    let end = source + 2 * place_of(n.0);
-    (d.kind == 2) & !((n.0 == 0) | ((WORK_RAM <= d.source) | (end <= cartridge.len())))
+    let end = place_of(d.source) + 2 * place_of(n.0);
+    d.is(DmaKind::Transfer) & !((n.0 == 0) | ((WORK_RAM <= d.source) | (end <= cartridge.len())))
 }
 
-// The number that a run answers.
-pub fn run_number(s: State, vram: &[u8], cartridge: &[u8], ram: &[u8], budget: u32) -> u8
-    ensures { result ≡ first (run_tests (chip s vram.now) cartridge.now ram.now budget) }
+// Whether a run is refused.
+pub fn run_check(
+    s: State,
+    vram: &[u8],
+    cartridge: &[u8],
+    ram: &[u8],
+    budget: u32,
+) -> Result<(), Refusal>
+    ensures { number_in result ≡ first (run_tests (chip s vram.now) cartridge.now ram.now budget) }
 {
     if !good(s) {
-        return BAD_STATE;
+        return Err(Refusal::BadState);
     }
     if bad_memory(vram, cartridge, ram) {
-        return BAD_BUFFER;
+        return Err(Refusal::BadBuffer);
     }
-    if lacking(s.control.dma, cartridge, words_made(s, budget)) {
-        SOURCE_NOT_LENT
-    } else {
-        DONE
+    if lacking(s.control.dma, cartridge, Words(units_made(s, budget))) {
+        return Err(Refusal::SourceNotLent);
     }
+    Ok(())
 }
 
 // Makes the units of a run that is not refused.
@@ -86,44 +78,36 @@ fn accepted<'a>(s: State, vram: &mut [u8], cartridge: &'a [u8], ram: &'a [u8], b
     ensures { chip result vram.new
         ≡ ran cartridge.now ram.now (units_made s budget) (chip s vram.old) }
 {
-    let kind = s.control.dma.kind;
-    let mut next = s;
-    if kind == 2 {
-        let n = words_made(s, budget);
-        return transfer_units(s, vram, cartridge, ram, n);
+    let units = units_made(s, budget);
+    let dma = s.control.dma;
+    if dma.is(DmaKind::Transfer) {
+        return transfer_units(s, vram, cartridge, ram, Words(units));
     }
-    if kind == 3 {
-        let n = bytes_made(s, budget);
-        let control = fill_units(s, vram, n);
-        next.control = control;
-        return next;
+    if dma.is(DmaKind::Fill) {
+        let control = fill_units(s, vram, Bytes(units));
+        return State { control, ..s };
     }
-    if kind == 4 {
-        let n = bytes_made(s, budget);
-        let control = copy_units(s, vram, n);
-        next.control = control;
-        return next;
+    if dma.is(DmaKind::Copy) {
+        let control = copy_units(s, vram, Bytes(units));
+        return State { control, ..s };
     }
-    next
+    s
 }
 
 // Makes DMA units, at most as many as the budget; the result is how many were made.
-pub fn run<'a>(s: State, vram: &mut [u8], cartridge: &'a [u8], ram: &'a [u8], budget: u32) -> Answer
-    ensures { outcome result vram.new
+pub fn run<'a>(
+    s: State,
+    vram: &mut [u8],
+    cartridge: &'a [u8],
+    ram: &'a [u8],
+    budget: u32,
+) -> Result<Done, Refusal>
+    ensures { outcome (answer_of s result) vram.new
         ≡ run_outcome (chip s vram.old) cartridge.now ram.now budget }
 {
-    let number = run_number(s, vram, cartridge, ram, budget);
-    if number != DONE {
-        return Answer {
-            number,
-            result: 0,
-            state: s,
-        };
-    }
-    let state = accepted(s, vram, cartridge, ram, budget);
-    Answer {
-        number: DONE,
+    run_check(s, vram, cartridge, ram, budget)?;
+    Ok(Done {
         result: units_made(s, budget),
-        state,
-    }
+        state: accepted(s, vram, cartridge, ram, budget),
+    })
 }

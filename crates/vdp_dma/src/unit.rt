@@ -7,7 +7,7 @@ use crate::source::{next_source, word_from};
 use vdp_ports::access::{Access, Memory, access_of, written};
 use vdp_ports::data::advanced;
 use vdp_ports::length::idle;
-use vdp_state::cell::{byte_at, joined};
+use vdp_state::cell::{get_or, joined};
 use vdp_state::state::{Control, Dma, Port, State, Step, Store};
 
 fn units_dma(d: Dma, n: u32, source: u32) -> Dma
@@ -49,9 +49,9 @@ fn byte_stored(vram: &[u8], place: u16, b: u8) -> Store
     let even = place - place % 2;
     let p = place as usize;
     if place % 2 == 0 {
-        Store::Vram(even, joined(b, byte_at(vram, p + 1)))
+        Store::Vram(even, joined(b, get_or(vram, p + 1, 0)))
     } else {
-        Store::Vram(even, joined(byte_at(vram, p - 1), b))
+        Store::Vram(even, joined(get_or(vram, p - 1, 0), b))
     }
 }
 
@@ -132,7 +132,7 @@ fn copy_step(s: State, vram: &[u8]) -> Step
         store: byte_stored(
             vram,
             s.control.port.address,
-            byte_at(vram, place_of(source)),
+            get_or(vram, place_of(source), 0),
         ),
     }
 }

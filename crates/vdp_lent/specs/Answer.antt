@@ -1,5 +1,5 @@
 -- What a call gives to a caller who lent the state: definition, Calls for a host program.
-use Rattle.vdp_state.specs.declared.answer.Answer.{Answer}
+use Rattle.vdp_state.specs.Answer.{Answer}
 use Rattle.vdp_state.specs.declared.state.State.{State}
 use Rattle.vdp_reader.specs.declared.deliver.Delivery.{Delivery}
 use Rattle.vdp_script.specs.declared.call.ItemAnswer.{ItemAnswer}

@@ -13,7 +13,7 @@ use crate::layout::{backdrop, shadow, wide};
 use crate::plane::{Row, row_dot};
 use crate::view::{row_a, row_b, view_of};
 use vdp_draw::width::width_of;
-use vdp_state::cell::byte_at;
+use vdp_state::cell::get_or;
 use vdp_state::state::State;
 
 // Writes the columns of a group, where the planes show these rows.
@@ -42,7 +42,7 @@ fn mix_columns(
             back,
             row_dot(vram, b, column),
             row_dot(vram, a, column),
-            byte_at(dots, x),
+            get_or(dots, x, 0),
         );
         x += 1;
     }

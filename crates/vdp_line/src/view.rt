@@ -7,7 +7,7 @@ ghost use Rattle.vdp_line.specs.View.{view_of, scroll_word, scrolled_row, row_a_
 
 use crate::layout::{bit, scroll_place};
 use crate::plane::{Plane, Row, plane_a, plane_b, row_of, window};
-use vdp_state::cell::{number_at, word_at};
+use vdp_state::cell::{get_or, word_at};
 use vdp_state::state::State;
 
 // A plane and its horizontal scroll.
@@ -80,7 +80,7 @@ fn scrolled_row(p: Scrolled, stepped: bool, plane: u8, vsram: &[u16], c: u8, lin
     ensures { result ≡ scrolled_row p stepped plane vsram.now c line }
 {
     let word = scroll_word(stepped, plane, c) as usize;
-    row_of(p.plane, p.h, number_at(vsram, word), line)
+    row_of(p.plane, p.h, get_or(vsram, word, 0), line)
 }
 
 // The row of the window or of plane A there.

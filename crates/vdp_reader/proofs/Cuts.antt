@@ -8,7 +8,7 @@ use mathlib.Core.Path.{◌≡◌, refl, sym, ap, ap₂, ◌∙◌}
 use mathlib.Core.Bool.{Bool, true, false, cond}
 use mathlib.Core.List.{List, [], ◌∷◌, ◌++◌, append_assoc}
 use lib.ListN.{length, drop}
-use Rattle.vdp_state.specs.declared.answer.Answer.{Answer}
+use Rattle.vdp_state.specs.Answer.{Answer}
 use Rattle.vdp_state.specs.State.{Chip}
 use Rattle.vdp_state.proofs.Bools.{by_cases, by_cond}
 use Rattle.vdp_script.specs.Call.{call_item}

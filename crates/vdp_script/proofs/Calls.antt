@@ -12,7 +12,7 @@ use native.Mathlib.Omega.{arith}
 use borrow.Author.Tests.{eq-eqb, ne_eqb}
 use lib.Dec.{eqb}
 use lib.ListN.{drop}
-use Rattle.vdp_state.specs.declared.answer.Answer.{Answer}
+use Rattle.vdp_state.specs.Answer.{Answer}
 use Rattle.vdp_state.specs.Answer.{Outcome, outcome}
 use Rattle.vdp_state.specs.State.{Chip}
 use Rattle.vdp_line.specs.Line.{LineOutcome, line_outcome}

@@ -1,6 +1,6 @@
 -- The call of an item: definition, Scripts, Running.
 use Rattle.std.specs.Prelude.{ℕ, cond, List, eqb, drop}
-use Rattle.vdp_state.specs.declared.answer.Answer.{Answer}
+use Rattle.vdp_state.specs.Answer.{Answer}
 use Rattle.vdp_state.specs.State.{Chip}
 use Rattle.vdp_ports.specs.Control.{control_write}
 use Rattle.vdp_ports.specs.Data.{data_write, data_read}

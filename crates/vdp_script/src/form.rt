@@ -4,7 +4,7 @@ ghost use Rattle.vdp_script.specs.Form.{items_from, form_of, form_judged};
 
 use crate::item::{Found, byte_after, item_at};
 use vdp_state::answer::{BAD_SCRIPT, DONE};
-use vdp_state::cell::byte_at;
+use vdp_state::cell::get_or;
 
 pub const VERSION: u8 = 1;
 
@@ -43,7 +43,7 @@ fn judge_items(script: &[u8]) -> Judged
 pub(crate) fn judge_form(script: &[u8]) -> Judged
     ensures { result ≡ form_judged (form_of script.now) }
 {
-    if byte_at(script, 0) != VERSION {
+    if get_or(script, 0, 0) != VERSION {
         return Judged {
             number: BAD_SCRIPT,
             place: 0,

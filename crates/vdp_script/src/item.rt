@@ -3,7 +3,7 @@ ghost use Rattle.std.specs.Prelude.{◌≡◌, ◌+◌, length, drop};
 ghost use Rattle.vdp_state.specs.Cell.{word_at};
 ghost use Rattle.vdp_script.specs.Item.{kind_of, content_of, item_bytes, byte_after, item_from, item_of};
 
-use vdp_state::cell::{byte_at, joined};
+use vdp_state::cell::{get_or, joined};
 
 // A call with its word, budget or line number.
 #[derive(Clone, Copy)]
@@ -91,12 +91,12 @@ pub fn item_from(kind: u8, content: u16) -> Found
 fn item_of(bytes: &[u8]) -> Found
     ensures { result ≡ item_of bytes.now }
 {
-    let content = joined(byte_at(bytes, 3), byte_at(bytes, 4));
-    let found = item_from(byte_at(bytes, 2), content);
+    let content = joined(get_or(bytes, 3, 0), get_or(bytes, 4, 0));
+    let found = item_from(get_or(bytes, 2, 0), content);
     let Found::Whole(item) = found else {
         return Found::Faulty;
     };
-    let length = joined(byte_at(bytes, 0), byte_at(bytes, 1)) as usize;
+    let length = joined(get_or(bytes, 0, 0), get_or(bytes, 1, 0)) as usize;
     if LENGTH_BYTES + length != bytes_of(item) {
         return Found::Faulty;
     }

@@ -6,7 +6,7 @@ ghost use Rattle.vdp_script.specs.Write.{write_outcome, write_item, write_kind};
 
 use crate::item::{Found, Item, LENGTH_BYTES, bytes_of, item_from, kind_of, word_of};
 use vdp_state::answer::{BAD_BUFFER, BAD_SCRIPT, DONE};
-use vdp_state::cell::put_byte;
+use vdp_state::cell::put;
 
 // The bytes of an item up to its kind.
 const HEAD: usize = 3;
@@ -25,13 +25,13 @@ fn put_item(script: &mut [u8], at: usize, item: Item)
     ensures { script.new ≡ sets script.old at (item_bytes item) }
 {
     let size = bytes_of(item);
-    put_byte(script, at, 0);
-    put_byte(script, at + 1, (size - LENGTH_BYTES) as u8);
-    put_byte(script, at + 2, kind_of(item));
+    put(script, at, 0);
+    put(script, at + 1, (size - LENGTH_BYTES) as u8);
+    put(script, at + 2, kind_of(item));
     if HEAD < size {
         let w = word_of(item);
-        put_byte(script, at + 3, (w / 256) as u8);
-        put_byte(script, at + 4, (w % 256) as u8);
+        put(script, at + 3, (w / 256) as u8);
+        put(script, at + 4, (w % 256) as u8);
     }
 }
 

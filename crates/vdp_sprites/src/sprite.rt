@@ -2,7 +2,7 @@
 ghost use Rattle.std.specs.Prelude.{◌≡◌, ◌+◌, ◌/◌, ◌%◌, ◌<◌};
 ghost use Rattle.vdp_sprites.specs.Sprite.{sprite_from, sprite_at, on_line};
 
-use vdp_state::cell::{byte_at, word_at};
+use vdp_state::cell::{get_or, word_at};
 
 // Y and X as they are stored, 128 more than on the screen; the size in cells; the link; the cell word.
 #[derive(Clone, Copy)]
@@ -27,12 +27,12 @@ fn sprite_from(vram: &[u8], place: u32) -> Sprite
     requires { place < 1048576 }
     ensures { result ≡ sprite_from vram.now place }
 {
-    let size = byte_at(vram, (place + 2) as usize);
+    let size = get_or(vram, (place + 2) as usize, 0);
     Sprite {
         y: word_at(vram, place) % 512,
         columns: columns_of(size),
         rows: size % 4 + 1,
-        link: byte_at(vram, (place + 3) as usize) % 128,
+        link: get_or(vram, (place + 3) as usize, 0) % 128,
         cell: word_at(vram, place + 4),
         x: word_at(vram, place + 6) % 512,
     }
@@ -49,7 +49,7 @@ pub fn sprite_at(vram: &[u8], base: u16, i: u8) -> Sprite
 pub(crate) fn columns_at(vram: &[u8], base: u16, i: u8) -> u8
     ensures { result ≡ (sprite_at vram.now base i).columns }
 {
-    columns_of(byte_at(vram, (base as usize) + 8 * (i as usize) + 2))
+    columns_of(get_or(vram, (base as usize) + 8 * (i as usize) + 2, 0))
 }
 
 // Whether a line of the screen crosses the sprite.

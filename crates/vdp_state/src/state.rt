@@ -10,7 +10,8 @@ pub struct Port {
     pub pending: bool,
 }
 
-// DMA kind: 0 idle, 1 fill waiting, 2 transfer, 3 fill, 4 copy; units remaining; source; fill byte.
+// The number of a DMA kind, units remaining, source and fill byte. The kind stays a number, since a state that C lends
+// may have one that there is not, and is then refused.
 #[repr(C)]
 #[derive(Clone, Copy)]
 pub struct Dma {

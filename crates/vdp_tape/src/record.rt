@@ -4,7 +4,7 @@ ghost use Rattle.vdp_tape.specs.Record.{kept_of, store_of, flag_bit, flag_byte, 
 ghost use Rattle.vdp_state.specs.Range.{good_store};
 ghost use Rattle.vdp_state.specs.Same.{same as same_bytes};
 
-use vdp_state::cell::{byte_at, joined};
+use vdp_state::cell::{get_or, joined};
 use vdp_state::colour::colour_word;
 use vdp_state::good::control_good;
 use vdp_state::state::{Control, Dma, Flags, Port, Step, Store, Timing};
@@ -185,14 +185,14 @@ pub fn record_of(t: Step) -> [u8; 32]
 fn one_at(bytes: &[u8], i: u8) -> u8
     ensures { result ≡ number_at bytes.now i 1 }
 {
-    byte_at(bytes, i as usize)
+    get_or(bytes, i as usize, 0)
 }
 
 fn two_at(bytes: &[u8], i: u8) -> u16
     ensures { result ≡ number_at bytes.now i 2 }
 {
     let at = i as usize;
-    joined(byte_at(bytes, at), byte_at(bytes, at + 1))
+    joined(get_or(bytes, at, 0), get_or(bytes, at + 1, 0))
 }
 
 fn joined_three(high: u8, middle: u8, low: u8) -> u32
@@ -206,9 +206,9 @@ fn three_at(bytes: &[u8], i: u8) -> u32
 {
     let at = i as usize;
     joined_three(
-        byte_at(bytes, at),
-        byte_at(bytes, at + 1),
-        byte_at(bytes, at + 2),
+        get_or(bytes, at, 0),
+        get_or(bytes, at + 1, 0),
+        get_or(bytes, at + 2, 0),
     )
 }
 

@@ -1,6 +1,6 @@
 -- The interrupt level that is offered, and its acknowledge: definition, Frame timing, Levels; notes s4.
 use Rattle.std.specs.Prelude.{ℕ, ◌/◌, ◌%◌, cond, not, ◌&&◌, ◌||◌, List, [], ◌∷◌, eqb}
-use Rattle.vdp_state.specs.declared.answer.Answer.{Answer}
+use Rattle.vdp_state.specs.Answer.{Answer}
 use Rattle.vdp_state.specs.declared.state.State.{State}
 use Rattle.vdp_state.specs.declared.state.Step.{Step}
 use Rattle.vdp_state.specs.declared.state.Timing.{Timing}
