@@ -81,8 +81,7 @@ pub fn written(access: Access, address: u16, w: u16) -> Store
 {
     match access {
         Access::Write(memory) => memory_store(memory, address, w),
-        Access::Read(_) => Store::Nothing,
-        Access::Nothing => Store::Nothing,
+        Access::Read(_) | Access::Nothing => Store::Nothing,
     }
 }
 
@@ -103,7 +102,6 @@ pub fn read_word(access: Access, s: State, vram: &[u8], address: u16) -> u16
 {
     match access {
         Access::Read(memory) => memory_word(memory, s, vram, address),
-        Access::Write(_) => 0,
-        Access::Nothing => 0,
+        Access::Write(_) | Access::Nothing => 0,
     }
 }

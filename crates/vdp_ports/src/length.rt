@@ -46,9 +46,7 @@ pub fn fill_waiting() -> Dma
 {
     Dma {
         kind: DmaKind::FillWaiting as u8,
-        remaining: 0,
-        source: 0,
-        fill: 0,
+        ..idle()
     }
 }
 
@@ -59,7 +57,7 @@ pub fn transfer(n: Words, source: u32) -> Dma
         kind: DmaKind::Transfer as u8,
         remaining: n.0,
         source,
-        fill: 0,
+        ..idle()
     }
 }
 
@@ -69,8 +67,8 @@ pub fn fill(n: Bytes, b: u8) -> Dma
     Dma {
         kind: DmaKind::Fill as u8,
         remaining: n.0,
-        source: 0,
         fill: b,
+        ..idle()
     }
 }
 
@@ -81,6 +79,6 @@ pub fn copy(n: Bytes, source: u32) -> Dma
         kind: DmaKind::Copy as u8,
         remaining: n.0,
         source,
-        fill: 0,
+        ..idle()
     }
 }
