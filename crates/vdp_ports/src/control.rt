@@ -6,7 +6,7 @@ ghost use Rattle.vdp_ports.specs.Control.{byte_word, fill_dropped, register_writ
 use crate::length::{Bytes, Words, copy, fill_waiting, idle, length, transfer};
 use crate::refusal::busy;
 use crate::taken::{Taken, has_register, register_of, taken_as};
-use vdp_state::answer::{Done, Refusal, answered};
+use vdp_state::answer::{Done, Refusal, made};
 use vdp_state::cell::joined;
 use vdp_state::good::good;
 use vdp_state::kind::DmaKind;
@@ -141,7 +141,7 @@ pub fn control_write(s: State, w: u16) -> Result<Done, Refusal>
     ensures { answer_of s result ≡ control_write s w }
 {
     control_check(s)?;
-    Ok(answered(s, control_step(s, w), 0))
+    Ok(made(s, control_step(s, w), 0))
 }
 
 // Writes a byte to the control port: the byte stands in both halves of the word.

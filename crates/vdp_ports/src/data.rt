@@ -8,7 +8,7 @@ ghost use Rattle.vdp_ports.specs.Data.{advanced as advanced_port, port_after, fi
 use crate::access::{access_of, read_word, written};
 use crate::length::{Bytes, fill, length};
 use crate::refusal::{VRAM_SIZE, busy};
-use vdp_state::answer::{Done, Refusal, answered, serve};
+use vdp_state::answer::{Done, Refusal, made, made_with_vram};
 use vdp_state::good::good;
 use vdp_state::kind::DmaKind;
 use vdp_state::state::{Control, Dma, Port, State, Step, Store};
@@ -105,7 +105,7 @@ pub fn data_write(s: State, vram: &mut [u8], w: u16) -> Result<Done, Refusal>
     ensures { outcome (answer_of s result) vram.new ≡ data_write (chip s vram.old) w }
 {
     data_check(s, vram)?;
-    Ok(serve(s, vram, data_write_step(s, w), 0))
+    Ok(made_with_vram(s, vram, data_write_step(s, w), 0))
 }
 
 // Writes a byte to the data port: the byte stands in both halves of the word.
@@ -120,5 +120,5 @@ pub fn data_read(s: State, vram: &[u8]) -> Result<Done, Refusal>
     ensures { answer_of s result ≡ data_read (chip s vram.now) }
 {
     data_check(s, vram)?;
-    Ok(answered(s, data_read_step(s), u32::from(data_word(s, vram))))
+    Ok(made(s, data_read_step(s), u32::from(data_word(s, vram))))
 }

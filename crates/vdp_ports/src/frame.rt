@@ -4,7 +4,7 @@ ghost use Rattle.vdp_state.specs.Answer.{number_in, answer_of, first};
 ghost use Rattle.vdp_ports.specs.Frame.{frame_step, frame_tests, new_frame};
 
 use crate::status::flags_cleared;
-use vdp_state::answer::{Done, Refusal, answered};
+use vdp_state::answer::{Done, Refusal, made};
 use vdp_state::good::good;
 use vdp_state::state::{State, Step, Store};
 
@@ -33,5 +33,5 @@ pub fn new_frame(s: State) -> Result<Done, Refusal>
     ensures { answer_of s result ≡ new_frame s }
 {
     frame_check(s)?;
-    Ok(answered(s, frame_step(s), 0))
+    Ok(made(s, frame_step(s), 0))
 }

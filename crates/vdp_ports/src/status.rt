@@ -4,7 +4,7 @@ ghost use Rattle.vdp_state.specs.Answer.{number_in, answer_of, first};
 ghost use Rattle.vdp_ports.specs.Status.{flag as flagged, blanking as is_blanking, status_word, flags_cleared, status_step, status_tests, status_read};
 
 use crate::refusal::{filling, transferring};
-use vdp_state::answer::{Done, Refusal, answered};
+use vdp_state::answer::{Done, Refusal, made};
 use vdp_state::good::good;
 use vdp_state::state::{Control, Flags, Port, State, Step, Store};
 
@@ -86,5 +86,5 @@ pub fn status_read(s: State) -> Result<Done, Refusal>
     ensures { answer_of s result ≡ status_read s }
 {
     status_check(s)?;
-    Ok(answered(s, status_step(s), u32::from(status_word(s))))
+    Ok(made(s, status_step(s), u32::from(status_word(s))))
 }

@@ -53,7 +53,7 @@ pub struct Done {
 }
 
 // A call that is not refused: its step is made.
-pub fn answered(s: State, t: Step, res: u32) -> Done
+pub fn made(s: State, t: Step, res: u32) -> Done
     ensures { answer_of s (Ok result) ≡ answered_as 0 s t res }
 {
     Done {
@@ -64,9 +64,9 @@ pub fn answered(s: State, t: Step, res: u32) -> Done
 
 // The same for a call that is lent VRAM.
 #[tactic(auto, unfolding(crate::specs::Cell::perform))]
-pub fn serve(s: State, vram: &mut [u8], t: Step, res: u32) -> Done
+pub fn made_with_vram(s: State, vram: &mut [u8], t: Step, res: u32) -> Done
     ensures { outcome (answer_of s (Ok result)) vram.new ≡ served 0 (chip s vram.old) t res }
 {
     store_in(vram, t.store);
-    answered(s, t, res)
+    made(s, t, res)
 }

@@ -4,7 +4,7 @@ ghost use Rattle.vdp_state.specs.Answer.{number_in, answer_of, first};
 ghost use Rattle.vdp_timing.specs.Interrupt.{level_number, offered as offered_of, level_offered, acknowledged as acknowledged_of, acknowledge_step, acknowledge_tests, acknowledge as acknowledge_answer};
 
 use crate::timing::{timing_read, timing_step};
-use vdp_state::answer::{Done, Refusal, answered};
+use vdp_state::answer::{Done, Refusal, made};
 use vdp_state::good::good;
 use vdp_state::state::{State, Step, Timing};
 
@@ -76,5 +76,5 @@ pub fn acknowledge(s: State, level: u8) -> Result<Done, Refusal>
     ensures { answer_of s result ≡ acknowledge_answer s level }
 {
     acknowledge_check(s, level)?;
-    Ok(answered(s, acknowledge_step(s, level), 0))
+    Ok(made(s, acknowledge_step(s, level), 0))
 }

@@ -4,7 +4,7 @@ ghost use Rattle.vdp_state.specs.Answer.{number_in, answer_of, first};
 ghost use Rattle.vdp_timing.specs.LineBegins.{next_line, loaded as loaded_at, expires as expires_at, counted as counted_at, timing_begun, line_begins_step, line_begins_tests, line_begins};
 
 use crate::timing::timing_step;
-use vdp_state::answer::{Done, Refusal, answered};
+use vdp_state::answer::{Done, Refusal, made};
 use vdp_state::good::{LAST_LINE, good};
 use vdp_state::state::{State, Step, Timing};
 
@@ -87,5 +87,5 @@ pub fn line_begins(s: State) -> Result<Done, Refusal>
     ensures { answer_of s result ≡ line_begins s }
 {
     line_begins_check(s)?;
-    Ok(answered(s, line_begins_step(s), 0))
+    Ok(made(s, line_begins_step(s), 0))
 }
