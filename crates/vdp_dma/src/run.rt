@@ -8,7 +8,6 @@ ghost use Rattle.vdp_dma.specs.Transfer.{at_hand};
 use crate::bytes::{copy_units, fill_units};
 use crate::source::WORK_RAM;
 use crate::transfer::transfer_units;
-use crate::unit::place_of;
 use vdp_ports::length::{Bytes, Words};
 use vdp_ports::refusal::VRAM_SIZE;
 use vdp_state::answer::{Done, Refusal};
@@ -24,21 +23,16 @@ const MOST_CARTRIDGE: usize = 4194304;
 pub fn units_made(s: State, budget: u32) -> u32
     ensures { result ≡ units_made s budget }
 {
-    let remaining = s.control.dma.remaining;
-    if budget <= remaining {
-        budget
-    } else {
-        remaining
-    }
+    budget.min(s.control.dma.remaining)
 }
 
 fn bad_memory(vram: &[u8], cartridge: &[u8], ram: &[u8]) -> bool
     ensures { result ≡ (bad_memory vram.now cartridge.now ram.now).holds }
 {
-    !(vram.len() == VRAM_SIZE)
-        | !(ram.len() == RAM_SIZE)
-        | !(cartridge.len() <= MOST_CARTRIDGE)
-        | !(cartridge.len() % 2 == 0)
+    vram.len() != VRAM_SIZE
+        || ram.len() != RAM_SIZE
+        || cartridge.len() > MOST_CARTRIDGE
+        || cartridge.len() % 2 != 0
 }
 
 // Whether a transfer lacks some of its next n words. Even sources and a cartridge below work RAM make one test do for all.
@@ -46,8 +40,8 @@ fn lacking(d: Dma, cartridge: &[u8], n: Words) -> bool
     ensures { result
         ≡ (eqb d.kind 2 && not (eqb n.0 0 || at_hand cartridge.now d.source n.0)) }
 {
-    let end = place_of(d.source) + 2 * place_of(n.0);
-    d.is(DmaKind::Transfer) & !((n.0 == 0) | ((WORK_RAM <= d.source) | (end <= cartridge.len())))
+    let end = d.source as usize + 2 * n.0 as usize;
+    d.is(DmaKind::Transfer) && n.0 != 0 && d.source < WORK_RAM && cartridge.len() < end
 }
 
 // Whether a run is refused.

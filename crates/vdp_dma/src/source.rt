@@ -12,14 +12,8 @@ pub const WORK_RAM: u32 = 0xe0_0000;
 fn part<'a>(memory: &'a [u8], at: usize, count: usize) -> &'a [u8]
     ensures { result.now ≡ take count (drop at memory.now) }
 {
-    let length = memory.len();
-    if length <= at {
-        return &memory[length..];
-    }
-    if length - at <= count {
-        return &memory[at..];
-    }
-    &memory[at..at + count]
+    let rest = &memory[at.min(memory.len())..];
+    &rest[..count.min(rest.len())]
 }
 
 // The part of the cartridge or of work RAM that holds the words next to be moved, as many as are wanted or as lie there
@@ -52,6 +46,6 @@ pub fn next_source(source: u32) -> u32
     if source == 0xff_fffe {
         0xff_0000
     } else {
-        (source % 0x100_0000 + 2) % 0x100_0000
+        source.wrapping_add(2) % 0x100_0000
     }
 }

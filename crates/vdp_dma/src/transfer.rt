@@ -10,7 +10,7 @@ use crate::unit::units_control;
 use vdp_ports::access::{access_of, written};
 use vdp_ports::data::advanced;
 use vdp_ports::length::Words;
-use vdp_state::cell::{joined, store_in};
+use vdp_state::cell::{joined, put, put_word};
 use vdp_state::state::{State, Store};
 
 // Stores a moved word in the memory that it is for.
@@ -20,21 +20,10 @@ fn store_word(store: Store, vram: &mut [u8], colours: &mut [u16], scrolls: &mut 
         × (scrolls.new ≡ scrolls_in scrolls.old store) }
 {
     match store {
-        Store::Vram(_, _) => store_in(vram, store),
-        Store::Cram(i, w) => {
-            let at = i as usize;
-            if at < colours.len() {
-                colours[at] = w;
-            }
-        }
-        Store::Vsram(i, w) => {
-            let at = i as usize;
-            if at < scrolls.len() {
-                scrolls[at] = w;
-            }
-        }
-        Store::Nothing => {}
-        Store::Register(_, _) => {}
+        Store::Nothing | Store::Register(_, _) => {}
+        Store::Vram(place, w) => put_word(vram, place, w),
+        Store::Cram(i, w) => put(colours, i as usize, w),
+        Store::Vsram(i, w) => put(scrolls, i as usize, w),
     }
 }
 
@@ -46,28 +35,24 @@ fn move_part(s: State, vram: &mut [u8], part: &[u8]) -> State
     ensures { chip result vram.new ≡ moved part.now (chip s vram.old) }
 {
     let increment = s.registers[15];
-    let control = s.control;
-    let access = access_of(control.port.code);
-    let mut port = control.port;
-    let mut source = control.dma.source;
+    let access = access_of(s.control.port.code);
+    let (words, _) = part.as_chunks::<2>();
+    let mut port = s.control.port;
+    let mut source = s.control.dma.source;
     let mut colours = s.cram;
     let mut scrolls = s.vsram;
-    let mut made: u32 = 0;
-    let mut i = 0;
-    while 2 <= part.len() - i {
-        let store = written(access, port.address, joined(part[i], part[i + 1]));
+    for word in words {
+        let store = written(access, port.address, u16::from_be_bytes(*word));
         store_word(store, vram, &mut colours, &mut scrolls);
         port = advanced(port, increment);
         source = next_source(source);
-        made += 1;
-        i += 2;
     }
-    let after = units_control(control, port, made, source);
-    let mut next = s;
-    next.control = after;
-    next.cram = colours;
-    next.vsram = scrolls;
-    next
+    State {
+        cram: colours,
+        vsram: scrolls,
+        control: units_control(s.control, port, words.len() as u32, source),
+        ..s
+    }
 }
 
 // Moves n words, part by part.
