@@ -14,7 +14,7 @@ use vdp_state::cell::{joined, put, put_word};
 use vdp_state::state::{State, Store};
 
 // Stores a moved word in the memory that it is for.
-fn store_word(store: Store, vram: &mut [u8], colours: &mut [u16], scrolls: &mut [u16])
+fn store_word(store: Store, vram: &mut [u8], colours: &mut [u16; 64], scrolls: &mut [u16; 40])
     ensures { (vram.new ≡ stored_in vram.old store)
         × (colours.new ≡ colours_in colours.old store)
         × (scrolls.new ≡ scrolls_in scrolls.old store) }

@@ -45,8 +45,6 @@ loop-word-preserved c =
           ∙ ap (made next (colours_in l.colours x) (scrolls_in l.scrolls x)) (st.ensures.0 ∙ ap (stored_in l.vram) same)
           ∙ sym (word_moved a.s now l.colours l.scrolls l.vram w))
           ∙ l.invariant.moved;
-      colours = st.auto.colours ∙ l.invariant.colours;
-      scrolls = st.auto.scrolls ∙ l.invariant.scrolls;
     }
 
 pub returns : goal.returns

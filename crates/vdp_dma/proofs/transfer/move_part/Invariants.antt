@@ -12,6 +12,4 @@ abbrev pub invariant-loop-word : goal.invariant-loop-word
 invariant-loop-word l = record {
   access : l.access ≡ access_by l.port.code;
   moved : moved (drop (2 * l.word-index) l.part) (chip (holding l.s (units_control l.s.control l.port l.word-index l.source) l.colours l.scrolls) l.vram) ≡ moved l.part (chip l.s l.initial.vram);
-  colours : length l.colours ≡ 64;
-  scrolls : length l.scrolls ≡ 40;
 }
