@@ -5,9 +5,11 @@ ghost use Rattle.vdp_state.specs.State.{chip};
 ghost use Rattle.vdp_dma.specs.Run.{units_made, bad_memory, run_tests, ran, run as run_outcome};
 ghost use Rattle.vdp_dma.specs.Transfer.{at_hand};
 
-use crate::bytes::{copy_units, fill_units};
+use crate::bytes::{copy_unit, fill_byte, for_each_unit};
 use crate::source::WORK_RAM;
 use crate::transfer::transfer_units;
+use crate::unit::writes_vram;
+use vdp_ports::access::access_of;
 use vdp_ports::length::{Bytes, Words};
 use vdp_ports::refusal::VRAM_SIZE;
 use vdp_state::answer::{Done, Refusal};
@@ -67,23 +69,31 @@ pub fn run_check(
 }
 
 // Makes the units of a run that is not refused.
-fn accepted<'a>(s: State, vram: &mut [u8], cartridge: &'a [u8], ram: &'a [u8], budget: u32) -> State
+fn accepted<'a>(
+    s: State,
+    vram: &mut [u8; VRAM_SIZE],
+    cartridge: &'a [u8],
+    ram: &'a [u8],
+    budget: u32,
+) -> State
     requires { first (run_tests (chip s vram.old) cartridge.now ram.now budget) ≡ 0 }
     ensures { chip result vram.new
         ≡ ran cartridge.now ram.now (units_made s budget) (chip s vram.old) }
 {
-    let units = units_made(s, budget);
+    let n = units_made(s, budget);
     let dma = s.control.dma;
     if dma.is(DmaKind::Transfer) {
-        return transfer_units(s, vram, cartridge, ram, Words(units));
+        return transfer_units(s, vram, cartridge, ram, Words(n));
     }
     if dma.is(DmaKind::Fill) {
-        let control = fill_units(s, vram, Bytes(units));
-        return State { control, ..s };
+        let writes = writes_vram(access_of(s.control.port.code));
+        return for_each_unit(s, vram, Bytes(n), |vram, address, source| {
+            fill_byte(vram, address, dma.fill, writes);
+            source
+        });
     }
     if dma.is(DmaKind::Copy) {
-        let control = copy_units(s, vram, Bytes(units));
-        return State { control, ..s };
+        return for_each_unit(s, vram, Bytes(n), copy_unit);
     }
     s
 }
@@ -100,6 +110,7 @@ pub fn run<'a>(
         ≡ run_outcome (chip s vram.old) cartridge.now ram.now budget }
 {
     run_check(s, vram, cartridge, ram, budget)?;
+    let vram = vram.as_mut_array().unwrap();
     Ok(Done {
         result: units_made(s, budget),
         state: accepted(s, vram, cartridge, ram, budget),

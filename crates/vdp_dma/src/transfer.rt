@@ -10,11 +10,17 @@ use crate::unit::units_control;
 use vdp_ports::access::{access_of, written};
 use vdp_ports::data::advanced;
 use vdp_ports::length::Words;
+use vdp_ports::refusal::VRAM_SIZE;
 use vdp_state::cell::{joined, put, put_word};
 use vdp_state::state::{State, Store};
 
 // Stores a moved word in the memory that it is for.
-fn store_word(store: Store, vram: &mut [u8], colours: &mut [u16; 64], scrolls: &mut [u16; 40])
+fn store_word(
+    store: Store,
+    vram: &mut [u8; VRAM_SIZE],
+    colours: &mut [u16; 64],
+    scrolls: &mut [u16; 40],
+)
     ensures { (vram.new ≡ stored_in vram.old store)
         × (colours.new ≡ colours_in colours.old store)
         × (scrolls.new ≡ scrolls_in scrolls.old store) }
@@ -28,7 +34,7 @@ fn store_word(store: Store, vram: &mut [u8], colours: &mut [u16; 64], scrolls: &
 }
 
 // Moves the words of a part. The loop carries what a word changes: the port, the source, colours and scroll words.
-fn move_part(s: State, vram: &mut [u8], part: &[u8]) -> State
+fn move_part(s: State, vram: &mut [u8; VRAM_SIZE], part: &[u8]) -> State
     requires { (0 < s.control.dma.remaining)
         × (length part.now / 2 ≤ s.control.dma.remaining)
         × (length part.now / 2 < 4294967296) }
@@ -58,7 +64,7 @@ fn move_part(s: State, vram: &mut [u8], part: &[u8]) -> State
 // Moves n words, part by part.
 pub(crate) fn transfer_units<'a>(
     s: State,
-    vram: &mut [u8],
+    vram: &mut [u8; VRAM_SIZE],
     cartridge: &'a [u8],
     ram: &'a [u8],
     n: Words,

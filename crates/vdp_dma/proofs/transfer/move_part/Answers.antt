@@ -1,7 +1,6 @@
 -- The words from here on, moved, lead where all of them lead from the start.
 use Rattle.std.proofs.Common.{ℕ, ◌≡◌, ◌<◌, ◌+◌, ◌*◌, ◌/◌, List, [], get_or, length, sym, ap, ◌∙◌, arith}
 use mathlib.Core.Path.{ap₂}
-use Rattle.std.specs.Simd.{first_chunks}
 use Rattle.vdp_dma.proofs.Units.{units_control_next}
 use Rattle.vdp_dma.proofs.Words.{chunk_of_two, moved_turn, moved_end, word_moved}
 use Rattle.vdp_dma.specs.Source.{next_source}

@@ -1,6 +1,6 @@
 -- The invariant: the words from here on, moved, lead where all of them lead from the start.
-use Prim.Native.Nat.{◌≤◌, ◌*◌, ◌/◌}
-use lib.ListN.{length, drop}
+use Prim.Native.Nat.{◌*◌}
+use lib.ListN.{drop}
 use mathlib.Core.Path.{◌≡◌}
 use Rattle.vdp_dma.specs.Transfer.{moved, holding}
 use Rattle.vdp_dma.specs.Unit.{units_control}

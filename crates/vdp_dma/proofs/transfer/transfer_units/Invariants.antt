@@ -8,8 +8,7 @@ use Rattle.vdp_state.specs.State.{chip}
 use Rattle.vdp_dma.proofs.transfer.transfer_units.Given as goal
 
 abbrev pub invariant-loop-left : goal.invariant-loop-left
-invariant-loop-left l = (length l.vram ≡ length l.initial.vram)
-    × (length l.cartridge ≤ 4194304)
+invariant-loop-left l = (length l.cartridge ≤ 4194304)
     × (length l.ram ≡ 65536)
     × (l.left < 2 ^ 32)
     × (0 < l.left → Ready l.cartridge l.next.control.dma l.left)
