@@ -208,6 +208,17 @@ module _ (cartridge ram : List ℕ) (size : length cartridge ≤ 4194304) (ram_s
       rw e (moved_part false n (dma c).source c _ refl (λ x. r)
       (part_of false (dma c).source _ n more r.even e refl (λ f. leb-true ((dma c).source + 2 * n) (length cartridge) (simp e at r.lent)))))
 
+  -- it has no word only where no more are to be moved
+  pub none_left : (n : ℕ) (c : Chip) → (0 < n → Ready cartridge (dma c) n) → length (words_next cartridge ram (dma c).source (record { 0 = n })) / 2 ≡ 0 → n ≡ 0
+  none_left zero c ready e = refl
+  none_left (suc n) c ready e =
+      let p = part_moved (suc n) c (omega arith) (ready (omega arith)) in
+      absurd (let bad : ⊥ = omega (arith, p.some, e) in bad)
+
+  pub some_left : (n : ℕ) (source : ℕ) → (length (words_next cartridge ram source (record { 0 = n })) / 2 ≡ 0 → ⊥) → 0 < n
+  some_left zero source h = absurd (h (by_cases (work_ram source) (λ e. simp e) (λ e. simp e)))
+  some_left (suc n) source h = omega arith
+
 -- ---- a word moved, by what it changes
 module _ (s : State) (k k' : Control) (colours scrolls : List ℕ) where
   stored_holding : (a : Access) (address w : ℕ) → with_control (stored (holding s k colours scrolls) (written a address w)) k' ≡ holding s k' (colours_in colours (written a address w)) (scrolls_in scrolls (written a address w))

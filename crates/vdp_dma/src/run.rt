@@ -6,7 +6,7 @@ ghost use Rattle.vdp_dma.specs.Run.{units_made, bad_memory, run_tests, ran, run 
 ghost use Rattle.vdp_dma.specs.Transfer.{at_hand};
 
 use crate::bytes::{copy_unit, fill_byte, for_each_unit};
-use crate::source::WORK_RAM;
+use crate::source::{Memories, WORK_RAM};
 use crate::transfer::transfer_units;
 use crate::unit::writes_vram;
 use vdp_ports::access::access_of;
@@ -69,21 +69,16 @@ pub fn run_check(
 }
 
 // Makes the units of a run that is not refused.
-fn accepted<'a>(
-    s: State,
-    vram: &mut [u8; VRAM_SIZE],
-    cartridge: &'a [u8],
-    ram: &'a [u8],
-    budget: u32,
-) -> State
-    requires { first (run_tests (chip s vram.old) cartridge.now ram.now budget) ≡ 0 }
+fn accepted(s: State, vram: &mut [u8; VRAM_SIZE], memories: Memories, budget: u32) -> State
+    requires { first (run_tests (chip s vram.old) memories.cartridge.now memories.ram.now budget)
+        ≡ 0 }
     ensures { chip result vram.new
-        ≡ ran cartridge.now ram.now (units_made s budget) (chip s vram.old) }
+        ≡ ran memories.entry.cartridge.now memories.entry.ram.now (units_made s budget) (chip s vram.old) }
 {
     let n = units_made(s, budget);
     let dma = s.control.dma;
     if dma.is(DmaKind::Transfer) {
-        return transfer_units(s, vram, cartridge, ram, Words(n));
+        return transfer_units(s, vram, memories, Words(n));
     }
     if dma.is(DmaKind::Fill) {
         let writes = writes_vram(access_of(s.control.port.code));
@@ -113,6 +108,6 @@ pub fn run<'a>(
     let vram = vram.as_mut_array().unwrap();
     Ok(Done {
         result: units_made(s, budget),
-        state: accepted(s, vram, cartridge, ram, budget),
+        state: accepted(s, vram, Memories { cartridge, ram }, budget),
     })
 }

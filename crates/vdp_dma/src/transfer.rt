@@ -5,13 +5,13 @@ ghost use Rattle.vdp_state.specs.State.{chip};
 ghost use Rattle.vdp_dma.specs.Run.{ran};
 ghost use Rattle.vdp_dma.specs.Transfer.{colours_in, scrolls_in, moved, Ready};
 
-use crate::source::{next_source, words_next};
+use crate::source::{Memories, next_source};
 use crate::unit::units_control;
 use vdp_ports::access::{access_of, written};
 use vdp_ports::data::advanced;
 use vdp_ports::length::Words;
 use vdp_ports::refusal::VRAM_SIZE;
-use vdp_state::cell::{joined, put, put_word};
+use vdp_state::cell::{put, put_word};
 use vdp_state::state::{State, Store};
 
 // Stores a moved word in the memory that it is for.
@@ -35,9 +35,7 @@ fn store_word(
 
 // Moves the words of a part. The loop carries what a word changes: the port, the source, colours and scroll words.
 fn move_part(s: State, vram: &mut [u8; VRAM_SIZE], part: &[u8]) -> State
-    requires { (0 < s.control.dma.remaining)
-        × (length part.now / 2 ≤ s.control.dma.remaining)
-        × (length part.now / 2 < 4294967296) }
+    requires { (0 < s.control.dma.remaining) × (length part.now / 2 ≤ s.control.dma.remaining) }
     ensures { chip result vram.new ≡ moved part.now (chip s vram.old) }
 {
     let increment = s.registers[15];
@@ -62,29 +60,26 @@ fn move_part(s: State, vram: &mut [u8; VRAM_SIZE], part: &[u8]) -> State
 }
 
 // Moves n words, part by part.
-pub(crate) fn transfer_units<'a>(
+pub(crate) fn transfer_units(
     s: State,
     vram: &mut [u8; VRAM_SIZE],
-    cartridge: &'a [u8],
-    ram: &'a [u8],
+    memories: Memories,
     n: Words,
 ) -> State
-    requires ready { 0 < n.0 → Ready cartridge.now s.control.dma n.0 }
-    requires memories { (length cartridge.now ≤ 4194304) × (length ram.now ≡ 65536) }
+    requires ready { 0 < n.0 → Ready memories.cartridge.now s.control.dma n.0 }
+    requires sizes { (length memories.cartridge.now ≤ 4194304) × (length memories.ram.now ≡ 65536) }
     ensures { chip result vram.new
-        ≡ ran cartridge.now ram.now n.0 (chip s vram.old) }
+        ≡ ran memories.entry.cartridge.now memories.entry.ram.now n.0 (chip s vram.old) }
 {
     let mut next = s;
     let mut left = n.0;
-    while 0 < left {
-        let source = next.control.dma.source;
-        let part = words_next(cartridge, ram, source, Words(left));
-        let count = (part.len() / 2) as u32;
-        if count == 0 {
+    loop {
+        let part = memories.words_next(next.control.dma.source, Words(left));
+        let moved = (part.len() / 2) as u32;
+        if moved == 0 {
             return next;
         }
         next = move_part(next, vram, part);
-        left -= count;
+        left -= moved;
     }
-    next
 }

@@ -3,7 +3,7 @@ ghost use Rattle.std.specs.Prelude.{◌≡◌, ◌+◌, ◌%◌};
 ghost use Rattle.vdp_state.specs.State.{chip};
 ghost use Rattle.vdp_dma.specs.Unit.{units_dma, units_control, unit_control, byte_stored, transfer_step, writes_vram, inverted as inverted_place, fill_step, copy_step, unit};
 
-use crate::source::{next_source, word_from};
+use crate::source::{Memories, next_source};
 use vdp_ports::access::{Access, Memory, access_of, written};
 use vdp_ports::data::advanced;
 use vdp_ports::length::idle;
@@ -120,7 +120,7 @@ pub fn unit_step(s: State, vram: &[u8], cartridge: &[u8], ram: &[u8]) -> Step
 {
     let dma = s.control.dma;
     if dma.is(DmaKind::Transfer) {
-        transfer_step(s, word_from(cartridge, ram, dma.source))
+        transfer_step(s, Memories { cartridge, ram }.word_from(dma.source))
     } else if dma.is(DmaKind::Fill) {
         fill_step(s, vram)
     } else {

@@ -1,7 +1,6 @@
 -- The units left lead where all of them lead from the start.
-use Rattle.std.proofs.Common.{◌∙◌, ap, refl}
+use Rattle.std.proofs.Common.{refl, rules}
 use Rattle.vdp_dma.proofs.Units.{leads_start, leads_turn, leads_end}
-use Rattle.vdp_state.specs.declared.state.Port.{Port}
 use Rattle.vdp_dma.proofs.bytes.for_each_unit.Goals as goal
 
 pub loop-init : goal.loop-init
@@ -17,7 +16,7 @@ loop-preserved g c =
     let a = c.args in
     let l = c.loop in record {
       callable = c.requires.callable;
-      code = ap (λ (p : Port). p.code) c.advanced-port.ensures ∙ l.invariant.code;
+      code = search rules;
       leads = λ step makes.
           leads_turn step a.s a.n.0 a.vram.now (goal.F-post g a.unit) makes l.port _ l.source _ l.counter _ _ c.loop-test.true c.requires.left.1 l.invariant.code c.advanced-port.ensures
           c.unit-source.ensures (l.invariant.leads step makes);

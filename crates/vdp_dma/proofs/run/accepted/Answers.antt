@@ -26,22 +26,22 @@ pub transfer_units-requires-clause-ready : goal.transfer_units-requires-clause-r
 transfer_units-requires-clause-ready c =
     let a = c.args in
     let e = c.units_made-n.ensures in
-    let known = accepted (chip a.s a.vram.now) a.cartridge.now a.ram.now a.budget c.requires in
+    let known = accepted (chip a.s a.vram.now) a.memories.cartridge.now a.memories.ram.now a.budget c.requires in
     let k : a.s.control.dma.kind ≡ 2 = eqb-true a.s.control.dma.kind 2 (sym c.is.ensures ∙ c.if-is.true) in
-    λ more. subst (λ (n : ℕ). Ready a.cartridge.now a.s.control.dma n) (sym e)
-    (accepted_ready (chip a.s a.vram.now) a.cartridge.now a.ram.now a.budget known k (subst (λ (n : ℕ). 0 < n) e more))
+    λ more. subst (λ (n : ℕ). Ready a.memories.cartridge.now a.s.control.dma n) (sym e)
+    (accepted_ready (chip a.s a.vram.now) a.memories.cartridge.now a.memories.ram.now a.budget known k (subst (λ (n : ℕ). 0 < n) e more))
 
 pub for_each_unit-requires-clause-left : goal.for_each_unit-requires-clause-left
 for_each_unit-requires-clause-left c =
     let a = c.args in
     let k : a.s.control.dma.kind ≡ 3 = eqb-true a.s.control.dma.kind 3 (sym c.is-2.ensures ∙ c.if-is-2.true) in
-    bytes_left a.s a.vram.now a.cartridge.now a.ram.now a.budget _ c.requires (omega (arith, k)) c.units_made-n.ensures
+    bytes_left a.s a.vram.now a.memories.cartridge.now a.memories.ram.now a.budget _ c.requires (omega (arith, k)) c.units_made-n.ensures
 
 pub for_each_unit-requires-then-is-3-clause-left : goal.for_each_unit-requires-then-is-3-clause-left
 for_each_unit-requires-then-is-3-clause-left c =
     let a = c.args in
     let k : a.s.control.dma.kind ≡ 4 = eqb-true a.s.control.dma.kind 4 (sym c.is-3.ensures ∙ c.if-is-3.true) in
-    bytes_left a.s a.vram.now a.cartridge.now a.ram.now a.budget _ c.requires (omega (arith, k)) c.units_made-n.ensures
+    bytes_left a.s a.vram.now a.memories.cartridge.now a.memories.ram.now a.budget _ c.requires (omega (arith, k)) c.units_made-n.ensures
 
 pub returns-then-is-2 : goal.returns-then-is-2
 returns-then-is-2 c =
@@ -56,7 +56,7 @@ returns-then-is-2 c =
     fill_made s k v.now v'.now source (search rules)
     (to ∙ ap₂ stored (writes ∙ ap (λ (x : ℕ). writes_vram (access x)) (sym code)) (sym fill)))
     ∙ ap (λ (n : ℕ). steps fill_step n (chip s a.vram.now)) c.units_made-n.ensures
-    ∙ sym (fill_ran a.cartridge.now a.ram.now made (chip s a.vram.now) (omega arith) k)
+    ∙ sym (fill_ran a.memories.cartridge.now a.memories.ram.now made (chip s a.vram.now) (omega arith) k)
 
 pub returns-then-is-3 : goal.returns-then-is-3
 returns-then-is-3 c =
@@ -65,16 +65,16 @@ returns-then-is-3 c =
     let k : a.s.control.dma.kind ≡ 4 = eqb-true a.s.control.dma.kind 4 (sym c.is-3.ensures ∙ c.if-is-3.true) in
     c.for_each_unit-then-is-3.ensures copy_step (λ k v v' source code fill called. copy_made a.s k v.now v'.now source (search rules) (search rules))
     ∙ ap (λ (n : ℕ). steps copy_step n (chip a.s a.vram.now)) c.units_made-n.ensures
-    ∙ sym (copy_ran a.cartridge.now a.ram.now made (chip a.s a.vram.now) (omega arith) k)
+    ∙ sym (copy_ran a.memories.cartridge.now a.memories.ram.now made (chip a.s a.vram.now) (omega arith) k)
 
 pub returns : goal.returns
 returns c =
     let a = c.args in
-    let known = accepted (chip a.s a.vram.now) a.cartridge.now a.ram.now a.budget c.requires in
+    let known = accepted (chip a.s a.vram.now) a.memories.cartridge.now a.memories.ram.now a.budget c.requires in
     let f = state_dma a.s known.state in
     let kind = a.s.control.dma.kind in
     let not2 = eqb-false kind 2 (sym c.is.ensures ∙ c.if-is.false) in
     let not3 = eqb-false kind 3 (sym c.is-2.ensures ∙ c.if-is-2.false) in
     let not4 = eqb-false kind 4 (sym c.is-3.ensures ∙ c.if-is-3.false) in
     let z : a.s.control.dma.remaining ≡ 0 = none_remaining _ f (omega (arith, f.kind, not2, not3, not4)) in
-    ap (λ (n : ℕ). ran a.cartridge.now a.ram.now n (chip a.s a.vram.now)) (let e : 0 ≡ units_made a.s a.budget = omega arith in e)
+    ap (λ (n : ℕ). ran a.memories.cartridge.now a.memories.ram.now n (chip a.s a.vram.now)) (let e : 0 ≡ units_made a.s a.budget = omega arith in e)
