@@ -5,10 +5,11 @@ ghost use Rattle.vdp_state.specs.State.{chip};
 ghost use Rattle.vdp_dma.specs.Run.{units_made, bad_memory, run_tests, ran, run as run_outcome};
 ghost use Rattle.vdp_dma.specs.Transfer.{at_hand};
 
-use crate::bytes::{copy_units, fill_units};
-use crate::source::WORK_RAM;
+use crate::bytes::{copy_unit, fill_byte, for_each_unit};
+use crate::source::{Memories, WORK_RAM};
 use crate::transfer::transfer_units;
-use crate::unit::place_of;
+use crate::unit::writes_vram;
+use vdp_ports::access::access_of;
 use vdp_ports::length::{Bytes, Words};
 use vdp_ports::refusal::VRAM_SIZE;
 use vdp_state::answer::{Done, Refusal};
@@ -24,21 +25,16 @@ const MOST_CARTRIDGE: usize = 4194304;
 pub fn units_made(s: State, budget: u32) -> u32
     ensures { result ≡ units_made s budget }
 {
-    let remaining = s.control.dma.remaining;
-    if budget <= remaining {
-        budget
-    } else {
-        remaining
-    }
+    budget.min(s.control.dma.remaining)
 }
 
 fn bad_memory(vram: &[u8], cartridge: &[u8], ram: &[u8]) -> bool
     ensures { result ≡ (bad_memory vram.now cartridge.now ram.now).holds }
 {
-    !(vram.len() == VRAM_SIZE)
-        | !(ram.len() == RAM_SIZE)
-        | !(cartridge.len() <= MOST_CARTRIDGE)
-        | !(cartridge.len() % 2 == 0)
+    vram.len() != VRAM_SIZE
+        || ram.len() != RAM_SIZE
+        || cartridge.len() > MOST_CARTRIDGE
+        || cartridge.len() % 2 != 0
 }
 
 // Whether a transfer lacks some of its next n words. Even sources and a cartridge below work RAM make one test do for all.
@@ -46,8 +42,8 @@ fn lacking(d: Dma, cartridge: &[u8], n: Words) -> bool
     ensures { result
         ≡ (eqb d.kind 2 && not (eqb n.0 0 || at_hand cartridge.now d.source n.0)) }
 {
-    let end = place_of(d.source) + 2 * place_of(n.0);
-    d.is(DmaKind::Transfer) & !((n.0 == 0) | ((WORK_RAM <= d.source) | (end <= cartridge.len())))
+    let end = d.source as usize + 2 * n.0 as usize;
+    d.is(DmaKind::Transfer) && n.0 != 0 && d.source < WORK_RAM && cartridge.len() < end
 }
 
 // Whether a run is refused.
@@ -73,23 +69,26 @@ pub fn run_check(
 }
 
 // Makes the units of a run that is not refused.
-fn accepted<'a>(s: State, vram: &mut [u8], cartridge: &'a [u8], ram: &'a [u8], budget: u32) -> State
-    requires { first (run_tests (chip s vram.old) cartridge.now ram.now budget) ≡ 0 }
+fn accepted(s: State, vram: &mut [u8; VRAM_SIZE], memories: Memories, budget: u32) -> State
+    requires { first (run_tests (chip s vram.old) memories.cartridge.now memories.ram.now budget)
+        ≡ 0 }
     ensures { chip result vram.new
-        ≡ ran cartridge.now ram.now (units_made s budget) (chip s vram.old) }
+        ≡ ran memories.entry.cartridge.now memories.entry.ram.now (units_made s budget) (chip s vram.old) }
 {
-    let units = units_made(s, budget);
+    let n = units_made(s, budget);
     let dma = s.control.dma;
     if dma.is(DmaKind::Transfer) {
-        return transfer_units(s, vram, cartridge, ram, Words(units));
+        return transfer_units(s, vram, memories, Words(n));
     }
     if dma.is(DmaKind::Fill) {
-        let control = fill_units(s, vram, Bytes(units));
-        return State { control, ..s };
+        let writes = writes_vram(access_of(s.control.port.code));
+        return for_each_unit(s, vram, Bytes(n), |vram, address, source| {
+            fill_byte(vram, address, dma.fill, writes);
+            source
+        });
     }
     if dma.is(DmaKind::Copy) {
-        let control = copy_units(s, vram, Bytes(units));
-        return State { control, ..s };
+        return for_each_unit(s, vram, Bytes(n), copy_unit);
     }
     s
 }
@@ -106,8 +105,9 @@ pub fn run<'a>(
         ≡ run_outcome (chip s vram.old) cartridge.now ram.now budget }
 {
     run_check(s, vram, cartridge, ram, budget)?;
+    let vram = vram.as_mut_array().unwrap();
     Ok(Done {
         result: units_made(s, budget),
-        state: accepted(s, vram, cartridge, ram, budget),
+        state: accepted(s, vram, Memories { cartridge, ram }, budget),
     })
 }

@@ -8,40 +8,44 @@ use vdp_state::cell::word_at;
 // The first word's address in work RAM, which lies there again every 65,536 bytes.
 pub const WORK_RAM: u32 = 0xe0_0000;
 
+// The memories that the words of a transfer lie in.
+#[derive(Clone, Copy)]
+pub struct Memories<'a> {
+    pub cartridge: &'a [u8],
+    pub ram: &'a [u8],
+}
+
 // Up to `count` bytes from `at` on.
 fn part<'a>(memory: &'a [u8], at: usize, count: usize) -> &'a [u8]
     ensures { result.now ≡ take count (drop at memory.now) }
 {
-    let length = memory.len();
-    if length <= at {
-        return &memory[length..];
-    }
-    if length - at <= count {
-        return &memory[at..];
-    }
-    &memory[at..at + count]
+    let rest = &memory[at.min(memory.len())..];
+    &rest[..count.min(rest.len())]
 }
 
-// The part of the cartridge or of work RAM that holds the words next to be moved, as many as are wanted or as lie there
-// up to its end; empty where the source is in neither.
-pub fn words_next<'a>(cartridge: &'a [u8], ram: &'a [u8], source: u32, wanted: Words) -> &'a [u8]
-    ensures { result.now ≡ words_next cartridge.now ram.now source wanted }
-{
-    let count = 2 * (wanted.0 as usize);
-    if WORK_RAM <= source {
-        return part(ram, (source % 65536) as usize, count);
+impl<'a> Memories<'a> {
+    // The part that holds the words next to be moved, as many as are wanted or as lie there up to its end; empty where
+    // the source is in neither memory.
+    pub fn words_next(self, source: u32, wanted: Words) -> &'a [u8]
+        ensures { result.now ≡ words_next self.entry.cartridge.now self.entry.ram.now source wanted }
+    {
+        let count = 2 * wanted.0 as usize;
+        if WORK_RAM <= source {
+            part(self.ram, (source % 65536) as usize, count)
+        } else {
+            part(self.cartridge, source as usize, count)
+        }
     }
-    part(cartridge, source as usize, count)
-}
 
-// The word at a source; 0 where it lies in neither memory.
-pub fn word_from(cartridge: &[u8], ram: &[u8], source: u32) -> u16
-    ensures { result ≡ word_from cartridge.now ram.now source }
-{
-    if WORK_RAM <= source {
-        word_at(ram, source % 65536)
-    } else {
-        word_at(cartridge, source)
+    // The word at a source; 0 where it lies in neither memory.
+    pub fn word_from(self, source: u32) -> u16
+        ensures { result ≡ word_from self.entry.cartridge.now self.entry.ram.now source }
+    {
+        if WORK_RAM <= source {
+            word_at(self.ram, source % 65536)
+        } else {
+            word_at(self.cartridge, source)
+        }
     }
 }
 
@@ -52,6 +56,6 @@ pub fn next_source(source: u32) -> u32
     if source == 0xff_fffe {
         0xff_0000
     } else {
-        (source % 0x100_0000 + 2) % 0x100_0000
+        source.wrapping_add(2) % 0x100_0000
     }
 }
