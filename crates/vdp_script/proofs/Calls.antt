@@ -12,14 +12,13 @@ use native.Mathlib.Omega.{arith}
 use borrow.Author.Tests.{eq-eqb, ne_eqb}
 use lib.Dec.{eqb}
 use lib.ListN.{drop}
+use Rattle.std.specs.Prelude.{Option, Some, None}
 use Rattle.vdp_state.specs.Answer.{Answer}
 use Rattle.vdp_state.specs.Answer.{Outcome, outcome}
 use Rattle.vdp_state.specs.State.{Chip}
 use Rattle.vdp_line.specs.Line.{LineOutcome, line_outcome}
-use Rattle.vdp_script.specs.declared.call.ItemAnswer.{ItemAnswer}
-use Rattle.vdp_script.specs.declared.item.Found.{Found}
-use Rattle.vdp_script.specs.declared.item.Found.TheVariants.{Whole, Faulty}
-use Rattle.vdp_script.specs.Call.{ItemOutcome, item_outcome, call_item, ScriptItemOutcome, script_item_outcome, item_answer, called, call_found, script_item}
+use Rattle.vdp_script.specs.declared.item.Item.{Item}
+use Rattle.vdp_script.specs.Call.{ItemAnswer, ItemOutcome, item_outcome, call_item, ScriptItemOutcome, script_item_outcome, item_answer, called, call_found, script_item}
 use Rattle.vdp_script.specs.Item.{byte_after, item_of}
 
 pub with_pixels : (a : Answer) (vram pixels : List ℕ) (o : Outcome) → outcome a vram ≡ o → item_outcome a vram pixels ≡ item_outcome o.answer o.vram pixels
@@ -28,9 +27,9 @@ with_pixels a vram pixels o e = ap (λ (x : Outcome). item_outcome x.answer x.vr
 pub with_vram : (a : Answer) (vram pixels : List ℕ) (o : LineOutcome) → line_outcome a pixels ≡ o → item_outcome a vram pixels ≡ item_outcome o.answer vram o.pixels
 with_vram a vram pixels o e = ap (λ (x : LineOutcome). item_outcome x.answer vram x.pixels) e
 
-pub at_byte : (script : List ℕ) (at : ℕ) (cartridge ram : List ℕ) (c : Chip) (pixels : List ℕ) {f : Found} → item_of (drop at script) ≡ f
+pub at_byte : (script : List ℕ) (at : ℕ) (cartridge ram : List ℕ) (c : Chip) (pixels : List ℕ) {f : Option Item} → item_of (drop at script) ≡ f
     → call_found f at cartridge ram c pixels ≡ script_item script at cartridge ram c pixels
-at_byte script at cartridge ram c pixels e = sym (ap (λ (x : Found). call_found x at cartridge ram c pixels) e)
+at_byte script at cartridge ram c pixels e = sym (ap (λ (x : Option Item). call_found x at cartridge ram c pixels) e)
 
 module _ (a : Answer) (vram pixels : List ℕ) (o : ItemOutcome) (at after : ℕ) (e : item_outcome a vram pixels ≡ o) where
   here : script_item_outcome (item_answer a (cond (eqb a.number 0) after at)) vram pixels ≡ called o at after
@@ -51,11 +50,11 @@ module _ (r : ItemAnswer) (vram' pixels' : List ℕ) where
     next_byte z = ap (λ (x : ScriptItemOutcome). x.answer.next) e ∙ (simp (eq-eqb o.answer.number 0 (sym same_number ∙ z)))
 
   module _ (at : ℕ) (cartridge ram : List ℕ) (c : Chip) (pixels : List ℕ) (z : r.number ≡ 0) where
-    further_found : (f : Found) → script_item_outcome r vram' pixels' ≡ call_found f at cartridge ram c pixels → at < r.next
-    further_found Faulty e =
+    further_found : (f : Option Item) → script_item_outcome r vram' pixels' ≡ call_found f at cartridge ram c pixels → at < r.next
+    further_found None e =
         let number : r.number ≡ 11 = ap (λ (x : ScriptItemOutcome). x.answer.number) e in
         absurd (let bad : ⊥ = omega arith in bad)
-    further_found (Whole i) e = omega (arith, next_byte (call_item i cartridge ram c pixels) at (byte_after at i) e z)
+    further_found (Some i) e = omega (arith, next_byte (call_item i cartridge ram c pixels) at (byte_after at i) e z)
 
     pub goes_further : (script : List ℕ) → script_item_outcome r vram' pixels' ≡ script_item script at cartridge ram c pixels → at < r.next
     goes_further script = further_found (item_of (drop at script))

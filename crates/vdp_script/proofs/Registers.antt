@@ -9,14 +9,13 @@ use mathlib.Core.Bool.{Bool, true, false}
 use mathlib.Core.List.{List, [], ◌∷◌}
 use native.Mathlib.Omega.{arith}
 use lib.ListN.{drop}
+use Rattle.std.specs.Prelude.{Some}
 use Rattle.vdp_state.specs.Answer.{first}
-use Rattle.vdp_script.specs.declared.form.Judged.{Judged}
 use Rattle.vdp_script.specs.declared.item.Item.{Item}
-use Rattle.vdp_script.specs.declared.item.Found.TheVariants.{Whole}
-use Rattle.vdp_script.specs.Form.{Form}
+use Rattle.vdp_script.specs.Form.{Judged, judgement, Form}
 use Rattle.vdp_script.specs.Item.{byte_after, item_of}
 use Rattle.vdp_script.specs.Missing.{names_missing, pending_after, items_before, missing_register, registers_judged}
-use Rattle.vdp_script.proofs.Forms.{items_at, further, judgement}
+use Rattle.vdp_script.proofs.Forms.{items_at, further}
 
 abbrev pub registers_after : ℕ → Bool → List Item → Judged
 registers_after place pending items = judgement (first (missing_register pending items ∷ [])) (place + items_before pending items)
@@ -29,7 +28,7 @@ module _ (place : ℕ) (pending : Bool) where
   pub none_missing : {items : List Item} → items ≡ [] → registers_after place pending items ≡ judgement 0 place
   none_missing e = ap (registers_after place pending) e ∙ ap (judgement 0) (let n : place + 0 ≡ place = omega arith in n)
 
-  module _ (script : List ℕ) (at : ℕ) (i : Item) (e : item_of (drop at script) ≡ Whole i) where
+  module _ (script : List ℕ) (at : ℕ) (i : Item) (e : item_of (drop at script) ≡ Some i) where
     behind : List Item
     behind = items_at script (byte_after at i)
 
