@@ -2,24 +2,23 @@
 --     passed                       the bytes of an item already found are passed over
 --     at_whole, at_faulty          an item that is whole stands before the rest, and nothing stands behind a faulty one
 --     there                        a form that is not faulty has a whole item where bytes are left
---     some_left, none_left, inside, further    the same at a byte of a script
---     judged_start, judged_at, judged_further  what is judged so far and what is left of it
+--     no_items, left_over          no item is left where none begins, and bytes that are left then are a faulty one
+--     items_few                    there are no more items than bytes
 --     wrong_version, right_version, has_version, right_form    the form of a whole script, by its version
 use Prim.Native.Nat.{ℕ, zero, suc, ◌+◌, ◌<◌, ◌≤◌}
 use mathlib.Core.Path.{◌≡◌, refl, sym, ap, ◌∙◌}
-use mathlib.Core.Bool.{Bool, true, false, true≢false}
+use mathlib.Core.Bool.{true, false, true≢false}
 use mathlib.Core.List.{List, [], ◌∷◌}
 use native.Mathlib.Omega.{arith}
 use borrow.Author.Tests.{eq-eqb, ne_eqb, eqb-true, eqb-false}
 use lib.Dec.{eqb}
-use lib.ListN.{length, get_or, drop, length-drop, drop_of_length-le}
-use lib.Seq.{drop-drop}
+use lib.ListN.{length, get_or, drop}
 use Rattle.std.specs.Prelude.{Option, Some, None}
 use Rattle.vdp_state.specs.Answer.{first}
 use Rattle.vdp_state.proofs.Bools.{by_cases}
 use Rattle.vdp_script.specs.declared.item.Item.{Item}
-use Rattle.vdp_script.specs.Form.{Judged, judgement, Form, form, before, others, items_from, version, form_of, bad_script, form_judged}
-use Rattle.vdp_script.specs.Item.{length_of, item_bytes, byte_after, item_of}
+use Rattle.vdp_script.specs.Form.{Judged, Form, form, before, others, items_from, version, form_of, bad_script}
+use Rattle.vdp_script.specs.Item.{length_of, item_bytes, item_of}
 use Rattle.vdp_script.proofs.Items.{size, whole_fits}
 
 pub passed : (n : ℕ) (bytes : List ℕ) → items_from n bytes ≡ items_from 0 (drop n bytes)
@@ -80,38 +79,10 @@ there bytes = there_found bytes (item_of bytes) refl
 abbrev pub items_at : List ℕ → ℕ → List Item
 items_at script at = (items_from 0 (drop at script)).items
 
-module _ (script : List ℕ) (at : ℕ) where
-  pub some_left : at < length script → 0 < length (drop at script)
-  some_left h = omega (arith, length-drop at script)
-
-  pub none_left : length script ≤ at → items_from 0 (drop at script) ≡ form [] false
-  none_left h = ap (items_from 0) (drop_of_length-le script h)
-
-  module _ (i : Item) (e : item_of (drop at script) ≡ Some i) where
-    pub inside : byte_after at i ≤ length script
-    inside = omega (arith, (whole_fits (drop at script) i e).there, length-drop at script, size i)
-
-    pub further : items_from 0 (drop at script) ≡ before (Some i) (items_from 0 (drop (byte_after at i) script))
-    further = at_whole (drop at script) i e ∙ ap (λ (l : List ℕ). before (Some i) (items_from 0 l)) (drop-drop (length (item_bytes i)) at script)
-
 -- ---- judging: so many items before the form
 abbrev pub judged_after : ℕ → Form → Judged
 judged_after place f = record { number = first (bad_script f ∷ []); place = place + length f.items }
 
-
-pub judged_start : (f : Form) → judged_after 0 f ≡ form_judged f
-judged_start f = ap (judgement (first (bad_script f ∷ []))) (let n : 0 + length f.items ≡ length f.items = omega arith in n)
-
-pub judged_at : (place : ℕ) (faulty : Bool) → judged_after place (form [] faulty) ≡ judgement (first (bad_script (form [] faulty) ∷ [])) place
-judged_at place faulty = ap (judgement (first (bad_script (form [] faulty) ∷ []))) (let n : place + 0 ≡ place = omega arith in n)
-
-judged_whole : (place : ℕ) (i : Item) (rest : Form) → judged_after place (before (Some i) rest) ≡ judged_after (place + 1) rest
-judged_whole place i rest = ap (judgement (first (bad_script rest ∷ []))) (let n : place + suc (length rest.items) ≡ place + 1 + length rest.items = omega arith in n)
-
-pub judged_further : (place : ℕ) (script : List ℕ) (at : ℕ) (i : Item) → item_of (drop at script) ≡ Some i
-    → judged_after place (items_from 0 (drop at script)) ≡ judged_after (place + 1) (items_from 0 (drop (byte_after at i) script))
-judged_further place script at i e =
-    ap (judged_after place) (further script at i e) ∙ judged_whole place i (items_from 0 (drop (byte_after at i) script))
 
 -- ---- a whole script
 pub wrong_version : (script : List ℕ) → (get_or script 0 0 ≡ version → ⊥) → form_of script ≡ form [] true

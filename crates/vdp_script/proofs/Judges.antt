@@ -1,10 +1,11 @@
 -- Laws of a script that is judged:
 --     sound                           judged with 0, none of its items is faulty
---     by_form, by_registers           where its form is refused, that is the judgement; else its registers are judged
+--     registers_after                 what is judged of the registers that items name, with so many items before them
+--     by_registers                    where its form is not refused its registers are judged
 --     nothing_missing                 without a faulty item and without one that names a missing register it is 0
 --     none_before                     and then as many items stand before a missing register as there are
 --     missing_judged, all_judged      a script whose form is not refused, by what is judged of its registers
-use Prim.Native.Nat.{ℕ, suc}
+use Prim.Native.Nat.{ℕ, suc, ◌+◌}
 use mathlib.Core.Path.{◌≡◌, refl, sym, ap, ap₂, ◌∙◌}
 use mathlib.Core.Bool.{Bool, true, false, cond, ◌||◌, true≢false}
 use mathlib.Core.List.{List, [], ◌∷◌}
@@ -17,6 +18,9 @@ use Rattle.vdp_script.specs.Judge.{judged_as, judged}
 use Rattle.vdp_script.specs.Missing.{names_missing, pending_after, any_missing, items_before, missing_register, registers_judged}
 use Rattle.vdp_script.proofs.Forms.{items_at, right_form}
 
+abbrev pub registers_after : ℕ → Bool → List Item → Judged
+registers_after place pending items = judgement (first (missing_register pending items ∷ [])) (place + items_before pending items)
+
 module _ (pending : Bool) where
   module _ (items : List Item) where
     sound_form : (faulty : Bool) → (judged_as pending (form items faulty)).number ≡ 0 → faulty ≡ false
@@ -26,10 +30,6 @@ module _ (pending : Bool) where
     unfaulted : (faulty : Bool) → (form_judged (form items faulty)).number ≡ 0 → faulty ≡ false
     unfaulted true e = absurd (let bad : ⊥ = omega arith in bad)
     unfaulted false e = refl
-
-    refused : (faulty : Bool) → ((form_judged (form items faulty)).number ≡ 0 → ⊥) → form_judged (form items faulty) ≡ judged_as pending (form items faulty)
-    refused true h = refl
-    refused false h = absurd (h refl)
 
     passed : (faulty : Bool) → (form_judged (form items faulty)).number ≡ 0 → registers_judged pending items ≡ judged_as pending (form items faulty)
     passed true e = absurd (let bad : ⊥ = omega arith in bad)
@@ -44,9 +44,6 @@ module _ (pending : Bool) where
 
     pub whole : (form_judged f).number ≡ 0 → f.faulty ≡ false
     whole = unfaulted f.items f.faulty
-
-    pub by_form : ((form_judged f).number ≡ 0 → ⊥) → form_judged f ≡ judged_as pending f
-    by_form = refused f.items f.faulty
 
     pub by_registers : (form_judged f).number ≡ 0 → registers_judged pending f.items ≡ judged_as pending f
     by_registers = passed f.items f.faulty

@@ -2,12 +2,11 @@
 --     passed              a script that is judged as not refused is run, with as many items as its judgement says
 --     refused_here        a call that is refused ends the run of its item and those behind it
 --     stopped_at, ended_at_last    so the run of the whole ends where a call is refused, or behind the last item
-use Prim.Native.Nat.{ℕ, suc, ◌+◌}
+use Prim.Native.Nat.{ℕ, ◌+◌}
 use mathlib.Core.Path.{◌≡◌, refl, sym, ap, ap₂, ◌∙◌}
-use mathlib.Core.Bool.{Bool, true, false, cond, true≢false}
+use mathlib.Core.Bool.{Bool, false, cond, true≢false}
 use mathlib.Core.List.{List, [], ◌∷◌}
 use native.Mathlib.Omega.{arith}
-use borrow.Author.Tests.{eq-eqb}
 use lib.Dec.{eqb}
 use lib.ListN.{length, drop}
 use Rattle.std.specs.Prelude.{Result, Ok, Err}
@@ -21,7 +20,7 @@ use Rattle.vdp_script.specs.declared.form.Fault.{Fault}
 use Rattle.vdp_script.specs.declared.item.Item.{Item}
 use Rattle.vdp_script.specs.Call.{ItemOutcome, item_outcome, call_item}
 use Rattle.vdp_script.specs.Form.{Judged, judged_of, judgement, Form, items_from, form_of}
-use Rattle.vdp_script.specs.Judge.{judged_as, judged}
+use Rattle.vdp_script.specs.Judge.{judged}
 use Rattle.vdp_script.specs.Run.{ScriptOutcome, script_outcome, run_answer_of, ended_at, run_items, run_script}
 use Rattle.vdp_script.proofs.Forms.{items_at, right_form}
 use Rattle.vdp_script.proofs.Judges.{sound, none_before}

@@ -1,12 +1,12 @@
 -- Laws of an item's bytes stored:
 --     part_stored           bytes stored as a part of a script are stored one after the other
 --     item_taken            the bytes that are stored are the item's
---     no_room_lem, room     what writing leaves without room, and with it
+--     room                  what writing leaves where there is room
 use Prim.Native.Nat.{ℕ, ◌+◌, ◌-◌, ◌/◌, ◌%◌, ◌<◌, ◌≤◌}
 use mathlib.Core.Path.{◌≡◌, refl, sym, ap, ap₂, subst, ◌∙◌}
 use mathlib.Core.List.{List, [], ◌∷◌, ◌++◌, append_assoc}
 use native.Mathlib.Omega.{arith}
-use borrow.Author.Tests.{le-leb, lt-leb}
+use borrow.Author.Tests.{le-leb}
 use borrow.Rule.Slice.PartMut.{put_mid}
 use lib.ListN.{length, get_or, take, drop}
 use lib.Seq.{sets, sets-eq}
@@ -44,9 +44,6 @@ item_taken i o size kind w pair content n k e h p =
     rw (low, all, k, p) of_content
 
 module _ (s : List ℕ) (at : ℕ) (i : Item) where
-  pub no_room_lem : length s < byte_after at i → write_outcome (written 2 0) s ≡ write_item s at i
-  no_room_lem h = simp (lt-leb (byte_after at i) (length s) h)
-
   pub room : (n : ℕ) (l : List ℕ) → byte_after at i ≤ length s → n ≡ length (item_bytes i) → l ≡ sets s at (item_bytes i) → write_outcome (written 0 (at + n)) l ≡ write_item s at i
   room n l h e stored =
       ap₂ (λ (m : ℕ) (x : List ℕ). write_outcome (written 0 (at + m)) x) e stored ∙ (simp (le-leb (byte_after at i) (length s) h))

@@ -1,9 +1,9 @@
 -- The invariant: what is judged of the items that are left, with the flag so far, is what is judged of all.
-use Rattle.std.proofs.Common.{◌≡◌, List, drop}
+use Rattle.std.proofs.Common.{◌≡◌, drop}
 use Rattle.std.specs.Iterator.Adapters.{enumerate_source, enumerate_count}
 use Rattle.vdp_script.specs.Form.{items_from}
 use Rattle.vdp_script.specs.Missing.{any_missing, registers_judged}
-use Rattle.vdp_script.proofs.Registers.{registers_after}
+use Rattle.vdp_script.proofs.Judges.{registers_after}
 use Rattle.vdp_script.proofs.missing.judge_registers.Given as goal
 
 abbrev pub invariant-loop-place : goal.invariant-loop-place
