@@ -83,7 +83,6 @@ items_at script at = (items_from 0 (drop at script)).items
 abbrev pub judged_after : ℕ → Form → Judged
 judged_after place f = record { number = first (bad_script f ∷ []); place = place + length f.items }
 
-
 -- ---- a whole script
 pub wrong_version : (script : List ℕ) → (get_or script 0 0 ≡ version → ⊥) → form_of script ≡ form [] true
 unfolding form_of

@@ -79,6 +79,6 @@ module _ (cartridge ram : List ℕ) (s : State) (before after pixels pixels' : L
       → ended_at (number refusal) place s after pixels' ≡ run_items left count cartridge ram (chip s before) pixels
   refused_here e {left} {items} l {place} {count} n =
       let onward : ItemOutcome → ScriptOutcome = λ o. cond (eqb o.answer.number 0) (run_items items (place + 1) cartridge ram (chip o.answer.state o.vram) o.pixels)
-          (ended_at o.answer.number place o.answer.state o.vram o.pixels) in
+      (ended_at o.answer.number place o.answer.state o.vram o.pixels) in
       let number_is : onward (item_outcome (refused (number refusal) s) after pixels') ≡ ended_at (number refusal) place s after pixels' = simp (refused_number refusal) in
       sym number_is ∙ ap onward e ∙ ap₂ (λ (x : List Item) (m : ℕ). run_items x m cartridge ram (chip s before) pixels) (sym l) n

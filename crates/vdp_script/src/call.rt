@@ -22,7 +22,8 @@ pub struct ItemDone {
     pub state: State,
 }
 
-// Makes the call of an item.
+// Makes the call of an item. The buffers go one by one, as C lends them: with a struct of them each contract would also
+// have to say that it holds the same ones as before.
 pub fn call_item<'a>(
     s: State,
     vram: &mut [u8],

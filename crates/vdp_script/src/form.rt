@@ -19,7 +19,7 @@ pub struct Fault {
 // The items that bytes begin with, one after the other, up to the first that is faulty.
 #[derive(Drop)]
 pub struct Items<'a> {
-    rest: &'a [u8],
+    pub rest: &'a [u8],
 }
 
 impl<'a> Iterator for Items<'a> {
@@ -56,6 +56,8 @@ fn judge_items(script: &[u8]) -> Result<usize, Fault>
 {
     let mut items = items_of(script);
     let mut place = 0;
+
+    // `count` would not tell which bytes are left then.
     while items.next().is_some() {
         place += 1;
     }

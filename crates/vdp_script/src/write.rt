@@ -31,12 +31,7 @@ pub fn write_item(script: &mut [u8], at: usize, item: Item) -> Result<usize, Ref
 }
 
 // Writes the item of a kind with this content; a kind that is not in the table has no item.
-pub fn write_kind(
-    script: &mut [u8],
-    at: usize,
-    kind: u8,
-    content: u16,
-) -> Result<usize, Refusal>
+pub fn write_kind(script: &mut [u8], at: usize, kind: u8, content: u16) -> Result<usize, Refusal>
     ensures { write_outcome (written_of result) script.new ≡ write_kind script.old at kind content }
 {
     let item = item_from(kind, content).ok_or(Refusal::BadScript)?;
