@@ -8,9 +8,8 @@ use mathlib.Core.Path.{◌≡◌, refl, sym, ap, ◌∙◌}
 use mathlib.Core.Bool.{Bool, true, false, cond, not, ◌&&◌, ◌||◌}
 use borrow.Author.Tests.{eqb-true}
 use lib.Dec.{eqb}
+use Rattle.std.specs.Prelude.{Option, Some, None}
 use Rattle.vdp_state.proofs.Bools.{by_cond, both_left, and_false}
-use Rattle.vdp_script.specs.declared.item.Found.{Found}
-use Rattle.vdp_script.specs.declared.item.Found.TheVariants.{Whole as Named, Faulty as Unnamed}
 use Rattle.vdp_script.specs.Form.{version}
 use Rattle.vdp_script.specs.Item.{item_from}
 use Rattle.vdp_reader.specs.declared.reader.Reader.{Reader}
@@ -26,9 +25,9 @@ Onward (Kept r) = goes_on r ≡ true
 Onward (Whole i) = Unit {0}
 Onward Faulty = Unit {0}
 
-onward_found : (f : Found) → Onward (whole_if f)
-onward_found Unnamed = tt
-onward_found (Named i) = tt
+onward_found : (f : Option Item) → Onward (whole_if f)
+onward_found None = tt
+onward_found (Some i) = tt
 
 -- a kind is kept in stage 5 and handed on to stage 6
 with_kind : (stage kind upper number : ℕ) → stage ≡ 5 → in_range (record { stage = stage; kind = kind; upper = upper; number = number }) ≡ true → has_content kind ≡ true
