@@ -8,4 +8,4 @@ pub returns : goal.returns
 returns c =
     let a = c.args in
     let bytes : AllBytes a.vram.now = λ i. search rules in
-    simp (byte_stored_lem a.vram.now a.address _ bytes (bytes a.source), c.byte_at-b.ensures)
+    simp (byte_stored_lem a.vram.now a.address _ bytes (bytes a.source), c.get_or-b.ensures)

@@ -8,7 +8,7 @@ use Rattle.vdp_dma.specs.Run.{bad_memory, not_lent, units_made}
 use Rattle.vdp_dma.specs.Transfer.{at_hand}
 use Rattle.vdp_state.specs.Good.{good}
 use Rattle.vdp_state.specs.declared.state.State.{State}
-use Rattle.vdp_dma.proofs.run.run_number.Goals as goal
+use Rattle.vdp_dma.proofs.run.run_check.Goals as goal
 
 -- the last test, as `lacking` has it
 last : (s : State) (vram cartridge ram : List ℕ) (budget n : ℕ) (lacking : Bool)
@@ -24,11 +24,11 @@ returns-then-lacking c =
     let a = c.args in
     let g : good a.s ≡ true = sym c.good.ensures ∙ c.if-not-good.false in
     let m : (bad_memory a.vram.now a.cartridge.now a.ram.now).holds ≡ false = sym c.bad_memory.ensures ∙ c.if-bad_memory.false in
-    simp (g, m, sym (last a.s a.vram.now a.cartridge.now a.ram.now a.budget _ _ g m c.words_made.ensures c.lacking.ensures) ∙ c.if-lacking.true)
+    simp (g, m, sym (last a.s a.vram.now a.cartridge.now a.ram.now a.budget _ _ g m c.units_made.ensures c.lacking.ensures) ∙ c.if-lacking.true)
 
-pub returns-else-lacking : goal.returns-else-lacking
-returns-else-lacking c =
+pub returns : goal.returns
+returns c =
     let a = c.args in
     let g : good a.s ≡ true = sym c.good.ensures ∙ c.if-not-good.false in
     let m : (bad_memory a.vram.now a.cartridge.now a.ram.now).holds ≡ false = sym c.bad_memory.ensures ∙ c.if-bad_memory.false in
-    simp (g, m, sym (last a.s a.vram.now a.cartridge.now a.ram.now a.budget _ _ g m c.words_made.ensures c.lacking.ensures) ∙ c.if-lacking.false)
+    simp (g, m, sym (last a.s a.vram.now a.cartridge.now a.ram.now a.budget _ _ g m c.units_made.ensures c.lacking.ensures) ∙ c.if-lacking.false)
