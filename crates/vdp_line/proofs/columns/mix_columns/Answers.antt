@@ -13,7 +13,7 @@ loop-x-preserved c =
     let l = c.loop-x in
     let a = c.args in
     let front : ℕ → ℕ → ℕ = λ y old. pixel a.shadow a.back (row_dot a.vram.now a.b y) (row_dot a.vram.now a.a y) (get_or a.dots.now y 0) in
-    let dots = ap₂ (λ (m n : ℕ). pixel a.shadow a.back m n c.byte_at.result) c.row_dot.ensures c.row_dot-in-loop-x.ensures ∙ ap (pixel a.shadow a.back _ _) c.byte_at.ensures in (
+    let dots = ap₂ (λ (m n : ℕ). pixel a.shadow a.back m n c.get_or.result) c.row_dot.ensures c.row_dot-in-loop-x.ensures ∙ ap (pixel a.shadow a.back _ _) c.get_or.ensures in (
       omega (arith, l.invariant.0),
       omega (arith, c.loop-x-test.true),
       simp length-set l.invariant.2,

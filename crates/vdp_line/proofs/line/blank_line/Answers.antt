@@ -18,7 +18,7 @@ use Rattle.vdp_line.proofs.line.blank_line.Goals as goal
 pub returns : goal.returns
 returns c =
     let a = c.args in
-    ap₂ (λ (k : Control) (px : List ℕ). line_outcome (done 0 (with_control a.s k)) px) c.blanked-control.ensures
+    ap₂ (λ (k : Control) (px : List ℕ). line_outcome (done 0 (with_control a.s k)) px) c.blanked.ensures
     (c.blank_columns.ensures
     ∙ ap₂ (λ (n b : ℕ). painted (λ y _. b) 0 n a.pixels.now) (c.width_of.ensures ∙ ap width_of c.wide.ensures) c.backdrop.ensures
     ∙ painted_all (λ y. backdrop a.s) (width_of (wide a.s)) a.pixels.now (omega (arith, width_small (wide a.s), c.requires.1)))

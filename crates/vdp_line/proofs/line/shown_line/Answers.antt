@@ -24,7 +24,8 @@ returns c =
     let f = c.sprite_line-found.result in
     let found : f ≡ sprites_of k a.line =
     c.sprite_line-found.ensures ∙ ap₂ (λ (b : ℕ) (w : Bool). sprite_line a.vram.now b w a.s.control.flags.used_up a.line) c.base_sprites.ensures c.wide.ensures in
-    ap₂ (λ (ctl : Control) (px : List ℕ). line_outcome (done f.visits (with_control a.s ctl)) px) c.flagged-control.ensures
+    ap (λ (n : ℕ). line_outcome (done n (with_control a.s c.flagged.result)) c.draw_columns.new.pixels) c.from.ensures
+    ∙ ap₂ (λ (ctl : Control) (px : List ℕ). line_outcome (done f.visits (with_control a.s ctl)) px) c.flagged.ensures
     (c.draw_columns.ensures ∙ painted_all (mixed k a.line f.dots) (width_of (wide a.s)) a.pixels.now (omega (arith, width_small (wide a.s), c.requires.1)))
     ∙ ap (λ (r : SpriteLine). line_outcome (done r.visits (with_control a.s (flagged a.s.control r))) (drawn a.s (mixed k a.line r.dots) a.pixels.now)) found
     ∙ made_shown k a.line a.pixels.now c.requires.0
