@@ -29,7 +29,8 @@ pub(crate) fn without_vram(
     t: Step,
     res: u32,
 ) -> Result<Recorded, Refusal>
-    ensures { (m : List ℕ) (p : Plan) → OneStep p (chip s m) (number_in plain) res t → OffVram (p.step (chip s m)).store
+    ensures { (m : List ℕ) (p : Plan) → OneStep p (chip s m) (number_in plain) res t
+        → OffVram (p.step (chip s m)).store
         → tape_outcome (tape_answer_of s count result) m tape.new
         ≡ recorded_by p (recorder s m tape.old count) }
 {

@@ -30,7 +30,12 @@ fn top_good(tape: &[u8], n: usize, k: usize) -> bool
     requires { (k ≤ n) × (n ≤ capacity_of tape.now) }
     ensures { result ≡ top_good tape.now n k }
 {
-    (n - k..n).rev().all(|i| good_record(record_at(tape, i)))
+    for i in (n - k..n).rev() {
+        if !good_record(record_at(tape, i)) {
+            return false;
+        }
+    }
+    true
 }
 
 // Undoes the top k of n records.
