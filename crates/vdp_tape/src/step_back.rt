@@ -1,28 +1,30 @@
 // Step back (definition, The tape): the top k records undone, from the top down.
-ghost use Rattle.std.specs.Prelude.{◌≡◌, ◌≤◌, ◌<◌};
+ghost use Rattle.std.specs.Prelude.{◌≡◌, ◌≤◌};
+ghost use Rattle.std.specs.Slice.Exact.{rchunks_exact_size, rchunks_exact_steps};
+ghost use Rattle.std.proofs.lemmas.Iterator.{YieldsList};
 ghost use Rattle.vdp_state.specs.Answer.{number_in};
 ghost use Rattle.vdp_state.specs.State.{chip};
 ghost use Rattle.vdp_tape.specs.Number.{capacity as capacity_of};
-ghost use Rattle.vdp_tape.specs.Record.{record_at};
 ghost use Rattle.vdp_tape.specs.Recorder.{recorder, tape_answer_of, tape_outcome};
-ghost use Rattle.vdp_tape.specs.StepBack.{top_good, undo as undone, back_number, step_back};
+ghost use Rattle.vdp_tape.specs.StepBack.{top_records, top_good, undo as undone, back_number, step_back};
 
 use crate::number::{RECORD_SIZE, capacity};
 use crate::record::{good_record, step_of};
 use crate::recorder::Recorded;
+use std::slice::RChunksExact;
 use vdp_ports::refusal::VRAM_SIZE;
 use vdp_state::answer::Refusal;
 use vdp_state::cell::perform;
 use vdp_state::good::good;
 use vdp_state::state::State;
 
-// Record i of a tape.
-fn record_at(tape: &[u8], i: usize) -> &[u8]
-    requires { i < capacity_of tape.now }
-    ensures { result.now ≡ record_at tape.now i }
+// The top k of n records, from the top down.
+fn top(tape: &[u8], n: usize, k: usize) -> RChunksExact<'_, u8>
+    requires { (k ≤ n) × (n ≤ capacity_of tape.now) }
+    ensures size { rchunks_exact_size result ≡ 32 }
+    ensures records { YieldsList rchunks_exact_steps (λ x. x.now) result (top_records tape.now n k) }
 {
-    let at = RECORD_SIZE * i;
-    &tape[at..at + RECORD_SIZE]
+    tape[RECORD_SIZE * (n - k)..RECORD_SIZE * n].rchunks_exact(RECORD_SIZE)
 }
 
 // Whether the top k of n records are good.
@@ -30,12 +32,7 @@ fn top_good(tape: &[u8], n: usize, k: usize) -> bool
     requires { (k ≤ n) × (n ≤ capacity_of tape.now) }
     ensures { result ≡ top_good tape.now n k }
 {
-    for i in (n - k..n).rev() {
-        if !good_record(record_at(tape, i)) {
-            return false;
-        }
-    }
-    true
+    top(tape, n, k).all(good_record)
 }
 
 // Undoes the top k of n records.
@@ -44,8 +41,8 @@ fn undo(s: State, vram: &mut [u8], tape: &[u8], n: usize, k: usize) -> State
     ensures { chip result vram.new ≡ undone tape.now n k (chip s vram.old) }
 {
     let mut next = s;
-    for i in (n - k..n).rev() {
-        next = perform(next, vram, step_of(record_at(tape, i)));
+    for record in top(tape, n, k) {
+        next = perform(next, vram, step_of(record));
     }
     next
 }
