@@ -1,7 +1,7 @@
 -- Outcomes of recorded calls, and loops that go over the records of a tape.
-use Prim.Native.Nat.{ℕ, suc, ◌+◌, ◌-◌, ◌<◌, ◌≤◌}
+use Prim.Native.Nat.{ℕ, suc, ◌-◌, ◌<◌, ◌≤◌}
 use mathlib.Core.Path.{◌≡◌, refl, sym, ap, ap₂, ◌∙◌}
-use mathlib.Core.Bool.{false, not, ◌&&◌, ◌||◌}
+use mathlib.Core.Bool.{false, not, ◌||◌}
 use mathlib.Core.List.{List, [], ◌∷◌}
 use native.Mathlib.Omega.{arith}
 use borrow.Author.Tests.{ltb-false}
@@ -25,9 +25,9 @@ use Rattle.vdp_ports.specs.Control.{taken_step, control_step}
 use Rattle.vdp_ports.specs.Taken.{taken_as, register_of, has_register}
 use Rattle.vdp_tape.specs.Number.{capacity, recorded_number}
 use Rattle.vdp_tape.specs.OneStep.{OneStep, OffVram}
-use Rattle.vdp_tape.specs.Record.{step_of, good_record, record_at}
+use Rattle.vdp_tape.specs.Record.{step_of, record_at}
 use Rattle.vdp_tape.specs.Recorder.{Recorder, recorder, record_step, record_steps, Plan, TapeOutcome, tape_answer_of, tape_outcome, tape_outcome_at, recorded_by}
-use Rattle.vdp_tape.specs.StepBack.{top_good, undo, back_number}
+use Rattle.vdp_tape.specs.StepBack.{undo, back_number}
 
 pub empty : (l : List ℕ) → length l ≡ 0 → l ≡ []
 empty [] e = refl
@@ -98,9 +98,6 @@ module _ (tape : List ℕ) (top left : ℕ) where
 
   pub undo_turn : (c c' : Chip) → 0 < left → c' ≡ perform c (step_of (record_at tape (top - 1))) → undo tape (top - 1) (left - 1) c' ≡ undo tape top left c
   undo_turn c c' h e = ap (undo tape (top - 1) (left - 1)) e ∙ sym (ap (λ (k : ℕ). undo tape top k c) (one_less h))
-
-  pub good_turn : 0 < left → top_good tape top left ≡ (good_record (record_at tape (top - 1)) && top_good tape (top - 1) (left - 1))
-  good_turn h = ap (top_good tape top) (one_less h)
 
 -- a step back that is not refused has its records on the tape
 pub back_accepted : (r : Recorder) (k : ℕ) → back_number r k ≡ 0 → (k ≤ r.count) × (r.count ≤ capacity r.tape)

@@ -1,13 +1,11 @@
 -- Records on a tape: a new one is read where it was written, and those below it stay; the copy that stores one.
-use Prim.Native.Nat.{ℕ, suc, ◌+◌, ◌-◌, ◌*◌, ◌<◌, ◌≤◌}
+use Prim.Native.Nat.{ℕ, ◌+◌, ◌-◌, ◌*◌, ◌<◌, ◌≤◌}
 use borrow.Rule.Slice.PartMut.{put_mid}
 use mathlib.Core.Path.{◌≡◌, refl, sym, ap, ◌∙◌}
 use mathlib.Core.List.{List, ◌++◌, append_assoc}
-use native.Mathlib.Nat.{add-zero}
-use native.Mathlib.Numerals.{add-one}
 use native.Mathlib.Omega.{arith}
-use lib.ListN.{length, get_or, take, drop, set, take-append-drop, length-drop, drop_of_length-le}
-use lib.Seq.{drop-cons, sets, sets-eq, length-take-le, drop-append-le, take-append-le, drop_at, take_at}
+use lib.ListN.{length, take, drop, take-append-drop, length-drop}
+use lib.Seq.{sets, sets-eq, length-take-le, drop-append-le, take-append-le, drop_at, take_at}
 use Rattle.std.proofs.lemmas.List.Edits.{paste_all}
 use Rattle.std.proofs.lemmas.Slice.{put_mid-paste}
 use Rattle.vdp_tape.specs.Record.{record_at}

@@ -25,7 +25,7 @@ pub fn line(
         ≡ recorded_line line pixels.old (recorder s vram.now tape.old count) }
 {
     with_tape(line_check(s, vram, line, pixels), tape, count, 1)?;
-    let drawn = draw(s, vram, line, pixels)?;
+    let drawn = draw(s, vram, line, pixels)?; // is not refused, since its check has passed
     let t = Step {
         control: drawn.state.control,
         store: Store::Nothing,

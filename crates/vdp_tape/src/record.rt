@@ -49,33 +49,37 @@ pub struct KeptCell {
     pub content: u16,
 }
 
-fn kept_of(store: Store) -> KeptCell
-    ensures { result ≡ kept_of store }
-{
-    let (kind, place, content) = match store {
-        Store::Nothing => (0, 0, 0),
-        Store::Vram(place, w) => (1, place, w),
-        Store::Cram(i, w) => (2, u16::from(i), w),
-        Store::Vsram(i, w) => (3, u16::from(i), w),
-        Store::Register(i, b) => (4, u16::from(i), u16::from(b)),
-    };
-    KeptCell {
-        kind,
-        place,
-        content,
+impl From<Store> for KeptCell {
+    ghost from_gives = { λ store kept. kept ≡ kept_of store };
+
+    fn from(store: Store) -> Self {
+        let (kind, place, content) = match store {
+            Store::Nothing => (0, 0, 0),
+            Store::Vram(place, w) => (1, place, w),
+            Store::Cram(i, w) => (2, u16::from(i), w),
+            Store::Vsram(i, w) => (3, u16::from(i), w),
+            Store::Register(i, b) => (4, u16::from(i), u16::from(b)),
+        };
+        KeptCell {
+            kind,
+            place,
+            content,
+        }
     }
 }
 
-fn store_of(c: KeptCell) -> Store
-    ensures { result ≡ store_of c }
-{
-    let index = (c.place % 256) as u8;
-    match c.kind {
-        1 => Store::Vram(c.place, c.content),
-        2 => Store::Cram(index, c.content),
-        3 => Store::Vsram(index, c.content),
-        4 => Store::Register(index, (c.content % 256) as u8),
-        _ => Store::Nothing,
+impl From<KeptCell> for Store {
+    ghost from_gives = { λ kept store. store ≡ store_of kept };
+
+    fn from(kept: KeptCell) -> Self {
+        let index = (kept.place % 256) as u8;
+        match kept.kind {
+            1 => Store::Vram(kept.place, kept.content),
+            2 => Store::Cram(index, kept.content),
+            3 => Store::Vsram(index, kept.content),
+            4 => Store::Register(index, (kept.content % 256) as u8),
+            _ => Store::Nothing,
+        }
     }
 }
 
@@ -103,11 +107,11 @@ fn flags_of(n: u8) -> Flags
     }
 }
 
-// The 32 bytes of a step.
+// The 32 bytes of a step. The bytes of a number are named 2, 1 and 0, the lowest being 0.
 pub fn record_of(t: Step) -> [u8; RECORD_SIZE]
     ensures { result ≡ record_of t }
 {
-    let kept = kept_of(t.store);
+    let kept = KeptCell::from(t.store);
     let Control {
         port,
         dma,
@@ -180,7 +184,7 @@ pub fn step_of(bytes: &[u8]) -> Step
     };
     Step {
         control: control_of(bytes),
-        store: store_of(kept),
+        store: Store::from(kept),
     }
 }
 

@@ -1,6 +1,6 @@
 -- Refused, or drawn and recorded.
 use Rattle.std.proofs.Common.{◌≡◌, ℕ, false, cond, eqb, List, refl, sym, ap, subst, ◌∙◌}
-use Rattle.std.proofs.lemmas.Bool.{eq-eqb, ne_eqb}
+use Rattle.std.proofs.lemmas.Bool.{eq-eqb}
 use Rattle.std.proofs.lemmas.Result.{err_from_is_err_and}
 use Rattle.vdp_line.specs.Line.{LineOutcome, line_outcome, line_made, line_pixels}
 use Rattle.vdp_state.specs.Answer.{number_in, first, done}

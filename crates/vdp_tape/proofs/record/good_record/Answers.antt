@@ -1,5 +1,5 @@
 -- The bytes are compared as the definition compares them, and the step that they read as is tested.
-use Rattle.std.proofs.Common.{◌≡◌, ℕ, ◌&&◌, List, ap, ◌∙◌}
+use Rattle.std.proofs.Common.{ℕ, ◌&&◌, List, ap, ◌∙◌}
 use Rattle.vdp_state.specs.Good.{good_control}
 use Rattle.vdp_state.specs.Range.{good_store}
 use Rattle.vdp_state.specs.Same.{same}

@@ -9,7 +9,7 @@ returns c =
     let t = c.args.t in
     let k = t.control in
     simp (
-      c.kept_of-kept.ensures,
+      c.from-kept.ensures,
       c.to_be_bytes.ensures,
       c.to_be_bytes-2.ensures,
       c.to_be_bytes-3.ensures,
