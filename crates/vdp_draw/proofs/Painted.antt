@@ -4,7 +4,6 @@ use mathlib.Core.Path.{◌≡◌, refl, sym, ap, ap₂, subst, ◌∙◌}
 use mathlib.Core.Bool.{Bool, true, false, ◌||◌}
 use mathlib.Core.List.{List, [], ◌∷◌, ◌++◌, append_assoc}
 use native.Mathlib.Nat.{add_assoc, zero-add, add-zero, add-suc}
-use native.Mathlib.Numerals.{add-one}
 use native.Mathlib.Omega.{arith}
 use borrow.Author.Tests.{eqb-true, eqb-false, leb-true, leb-false, ltb-true, ltb-false}
 use Rattle.std.proofs.Math.Bool.{or_assoc, or-false}
@@ -51,11 +50,6 @@ module _ (f : ℕ → ℕ → ℕ) (from : ℕ) (l : List ℕ) where
       ap (λ (m : List ℕ). set m x (f x (get_or l x 0))) e
       ∙ ap (λ (k : ℕ). set (painted f from (x - from) l) k (f k (get_or l k 0))) (sym at)
       ∙ ap (λ (k : ℕ). painted f from k l) (sym more)
-
-  pub painted_first : (x : ℕ) (l' : List ℕ) → from ≡ 0 → l' ≡ painted f from x l → set l' x (f x (get_or l x 0)) ≡ painted f from (x + 1) l
-  painted_first x l' z e =
-      let at : x ≡ from + x = omega arith in
-      ap₂ (λ (m : List ℕ) (k : ℕ). set m k (f k (get_or l k 0))) e at ∙ ap (λ (k : ℕ). painted f from k l) (sym (add-one x))
 
   -- the columns that follow, painted on
   pub painted_join : (n m : ℕ) → painted f (from + n) m (painted f from n l) ≡ painted f from (n + m) l
