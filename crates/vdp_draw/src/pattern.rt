@@ -15,6 +15,6 @@ fn half(b: u8, column: u8) -> u8
 pub fn pattern_pixel(vram: &[u8], name: u16, row: u8, column: u8) -> u8
     ensures { result ≡ pattern_pixel vram.now name row column }
 {
-    let place = 32 * (name as usize) + 4 * (row as usize) + (column / 2) as usize;
+    let place = 32 * usize::from(name) + 4 * usize::from(row) + usize::from(column / 2);
     half(get_or(vram, place, 0), column)
 }

@@ -15,6 +15,33 @@ pub struct Sprite {
     pub x: u16,
 }
 
+// The sprites' table: VRAM, and where the table lies in it.
+#[derive(Clone, Copy)]
+pub struct Table<'a> {
+    pub vram: &'a [u8],
+    pub base: u16,
+}
+
+impl Table<'_> {
+    // Sprite i.
+    pub fn sprite_at(self, i: u8) -> Sprite
+        ensures { result ≡ sprite_at self.entry.vram.now self.entry.base i }
+    {
+        sprite_from(self.vram, u32::from(self.base) + 8 * u32::from(i))
+    }
+
+    // The width in cells of sprite i, read by itself.
+    pub(crate) fn columns_at(self, i: u8) -> u8
+        ensures { result ≡ (sprite_at self.entry.vram.now self.entry.base i).columns }
+    {
+        columns_of(get_or(
+            self.vram,
+            usize::from(self.base) + 8 * usize::from(i) + 2,
+            0,
+        ))
+    }
+}
+
 // The width in cells, of the size byte.
 fn columns_of(size: u8) -> u8
     ensures { result ≡ size / 4 % 4 + 1 }
@@ -38,25 +65,11 @@ fn sprite_from(vram: &[u8], place: u32) -> Sprite
     }
 }
 
-// Sprite i of the table at a base.
-pub fn sprite_at(vram: &[u8], base: u16, i: u8) -> Sprite
-    ensures { result ≡ sprite_at vram.now base i }
-{
-    sprite_from(vram, (base as u32) + 8 * (i as u32))
-}
-
-// The width in cells of sprite i, read by itself.
-pub(crate) fn columns_at(vram: &[u8], base: u16, i: u8) -> u8
-    ensures { result ≡ (sprite_at vram.now base i).columns }
-{
-    columns_of(get_or(vram, (base as usize) + 8 * (i as usize) + 2, 0))
-}
-
 // Whether a line of the screen crosses the sprite.
 pub(crate) fn on_line(s: Sprite, line: u8) -> bool
     ensures { result ≡ on_line s line }
 {
-    let at = (line as u32) + 128;
-    let top = s.y as u32;
-    (top <= at) & (at < top + 8 * (s.rows as u32))
+    let at = u32::from(line) + 128;
+    let top = u32::from(s.y);
+    (top <= at) & (at < top + 8 * u32::from(s.rows))
 }
