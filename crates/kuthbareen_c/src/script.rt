@@ -5,14 +5,15 @@ ghost use Rattle.vdp_script.specs.Call.{script_item_outcome, script_item};
 ghost use Rattle.vdp_script.specs.Judge.{judged};
 ghost use Rattle.vdp_script.specs.Run.{script_outcome, run_script};
 ghost use Rattle.vdp_script.specs.Write.{write_outcome, write_kind};
-ghost use Rattle.kuthbareen_c.specs.Answer.{with_item_state, with_script_state};
+ghost use Rattle.kuthbareen_c.specs.Answer.{judged_as, with_item_state, with_script_state, written_as};
 
-use crate::answer::{LentItemAnswer, LentScriptAnswer, lend_item, lend_script};
+use crate::answer::{
+    LentItemAnswer, LentJudged, LentScriptAnswer, LentWritten, lend_item, lend_script,
+};
 use vdp_script::call::script_item;
-use vdp_script::form::Judged;
 use vdp_script::judge::judge_script;
 use vdp_script::run::run_script;
-use vdp_script::write::{Written, write_kind};
+use vdp_script::write::write_kind;
 use vdp_state::state::State;
 
 // Runs a script.
@@ -50,16 +51,16 @@ pub extern "C" fn kuthbareen_script_item<'a>(
 
 // Judges a script as a whole, with this pending flag.
 #[unsafe(no_mangle)]
-pub extern "C" fn kuthbareen_judge_script(pending: bool, script: &[u8]) -> Judged
-    ensures { result ≡ judged pending script.now }
+pub extern "C" fn kuthbareen_judge_script(pending: bool, script: &[u8]) -> LentJudged
+    ensures { judged_as result ≡ judged pending script.now }
 {
-    judge_script(pending, script)
+    judge_script(pending, script).into()
 }
 
 // Writes the item of a kind with this content at a byte of a script.
 #[unsafe(no_mangle)]
-pub extern "C" fn kuthbareen_write_item(script: &mut [u8], at: usize, kind: u8, content: u16) -> Written
-    ensures { write_outcome result script.new ≡ write_kind script.old at kind content }
+pub extern "C" fn kuthbareen_write_item(script: &mut [u8], at: usize, kind: u8, content: u16) -> LentWritten
+    ensures { write_outcome (written_as result) script.new ≡ write_kind script.old at kind content }
 {
-    write_kind(script, at, kind, content)
+    write_kind(script, at, kind, content).into()
 }
