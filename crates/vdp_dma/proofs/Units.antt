@@ -18,7 +18,7 @@ use Rattle.vdp_state.specs.Cell.{put_word, stored_in, perform, made, steps}
 use Rattle.vdp_state.specs.Range.{AllBytes}
 use Rattle.vdp_state.specs.State.{Chip, chip, with_control, with_port, with_dma}
 use Rattle.vdp_state.proofs.Bools.{by_cases}
-use Rattle.vdp_state.proofs.Iterate.{iterate_start, iterate_turn, iterate_end}
+use Rattle.vdp_state.proofs.Iterate.{iterate_turn}
 use Rattle.vdp_ports.specs.Access.{access, even_place}
 use Rattle.vdp_ports.specs.Data.{advanced}
 use Rattle.vdp_ports.specs.Length.{register}
@@ -70,11 +70,6 @@ module _ (d : Dma) (i : ℕ) (live : i < d.remaining) where
       let same : d.remaining - (i + 1) ≡ d.remaining - i - 1 = omega arith in
       simp (more, e, lt-leb (d.remaining - i) 1 (omega arith), same))
 
-pub units_none : (k : Control) → 0 < k.dma.remaining → units_control k k.port 0 k.dma.source ≡ k
-units_none k h =
-    let same : k.dma.remaining - 0 ≡ k.dma.remaining = omega arith in
-    simp (lt-leb k.dma.remaining 0 h, same)
-
 -- the control part after one unit more
 pub units_control_next : (k : Control) (p p' : Port) (source source' i increment : ℕ) (next : ℕ → ℕ) → i < k.dma.remaining → p' ≡ advanced p increment → source' ≡ next source → units_control k p' (i + 1) source' ≡ unit_control (units_control k p i source) increment (next (units_dma k.dma i source).source)
 units_control_next k p p' source source' i increment next live pe se =
@@ -88,10 +83,6 @@ Leads step s n vram₀ p source i vram =
     steps step (n - i) (chip (with_control s (units_control s.control p i source)) vram) ≡ steps step n (chip s vram₀)
 
 module _ (step : Chip → Step) (s : State) (n : ℕ) (vram₀ : List ℕ) where
-  pub leads_start : 0 < s.control.dma.remaining → Leads step s n vram₀ s.control.port s.control.dma.source 0 vram₀
-  leads_start h =
-      iterate_start (made step) n _ ∙ ap (λ (k : Control). steps step n (chip (with_control s k) vram₀)) (units_none s.control h)
-
   pub leads_turn : (post : MutBor (List ℕ) → ℕ → ℕ → ℕ → MutBor (List ℕ) → Type 0) → MakesUnits post s step → (p p' : Port) (source source' i : ℕ) (v v' : MutBor (List ℕ)) → i < n → n ≤ s.control.dma.remaining → p.code ≡ s.control.port.code → p' ≡ advanced p (register s 15) → post v p.address source source' v' → Leads step s n vram₀ p source i v.now → Leads step s n vram₀ p' source' (i + 1) v'.now
   leads_turn post makes p p' source source' i v v' h most code pe called leads =
       let d = s.control.dma in
@@ -102,11 +93,6 @@ module _ (step : Chip → Step) (s : State) (n : ℕ) (vram₀ : List ℕ) where
       let control = units_control_next s.control p p' source source' i (register s 15) (λ x. source') live pe refl in
       ap (steps step (n - (i + 1))) (ap (λ (x : Control). chip (with_control s x) v'.now) control ∙ sym made_now)
       ∙ sym (iterate_turn (made step) n i (chip (with_control s k) v.now) h) ∙ leads
-
-  pub leads_end : (p : Port) (source i : ℕ) (m : List ℕ) (k : Control) → n ≤ i → i ≤ n → k ≡ units_control s.control p n source → Leads step s n vram₀ p source i m → chip (with_control s k) m ≡ steps step n (chip s vram₀)
-  leads_end p source i m k low high e leads =
-      ap (λ (x : Control). chip (with_control s x) m) (e ∙ ap (λ (j : ℕ). units_control s.control p j source) (let q : n ≡ i = omega arith in q))
-      ∙ sym (iterate_end (made step) n i (chip (with_control s (units_control s.control p i source)) m) low) ∙ leads
 
 -- ---- one unit, by what a call that makes it leaves: the next source, and VRAM
 module _ (s : State) (k : Control) (m m' : List ℕ) (source : ℕ) where

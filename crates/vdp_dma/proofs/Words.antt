@@ -51,14 +51,6 @@ moved_turn l i c c' h e =
     ap₂ (λ (k : ℕ) (x : Chip). moved (drop k l) x) p (e ∙ ap (λ (k : ℕ). perform c (transfer_step c.state (get_or l j 0 * 256 + get_or l k 0))) q)
     ∙ sym (ap (λ (r : List ℕ). moved r c) two)
 
-moved_short : (l : List ℕ) (c : Chip) → length l < 2 → moved l c ≡ c
-moved_short [] c h = refl
-moved_short (x ∷ []) c h = refl
-moved_short (x ∷ (y ∷ l)) c h = absurd (let bad : ⊥ = omega arith in bad)
-
-pub moved_end : (l : List ℕ) (i : ℕ) (c : Chip) → length l / 2 ≤ i → moved (drop (2 * i) l) c ≡ c
-moved_end l i c h = moved_short (drop (2 * i) l) c (omega (arith, length-drop (2 * i) l))
-
 -- ---- one word
 module _ (cartridge : List ℕ) (size : length cartridge ≤ 4194304) where
   -- the next source, where n words are at hand and more than one is left

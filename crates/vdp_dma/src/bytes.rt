@@ -38,6 +38,7 @@ pub(crate) fn for_each_unit<F: Fn(&mut [u8; VRAM_SIZE], u16, u32) -> u32>(
 }
 
 // The byte of a fill unit.
+#[tactic(auto, using(crate::proofs::Units::byte_stored_lem))]
 pub(crate) fn fill_byte(vram: &mut [u8; VRAM_SIZE], address: u16, b: u8, writes: bool)
     ensures { vram.new
         ≡ stored_in vram.old (cond writes (byte_stored vram.old (inverted_place address) b) Store.Nothing) }
@@ -48,6 +49,7 @@ pub(crate) fn fill_byte(vram: &mut [u8; VRAM_SIZE], address: u16, b: u8, writes:
 }
 
 // The byte of a copy unit, and the source after it.
+#[tactic(auto, using(crate::proofs::Units::byte_stored_lem))]
 pub(crate) fn copy_unit(vram: &mut [u8; VRAM_SIZE], address: u16, source: u32) -> u32
     ensures next { result ≡ (source + 1) % 65536 }
     ensures stored { vram.new

@@ -47,6 +47,7 @@ fn lacking(d: Dma, cartridge: &[u8], n: Words) -> bool
 }
 
 // Whether a run is refused.
+#[tactic(auto, using(crate::proofs::Accepted::lacks))]
 pub fn run_check(
     s: State,
     vram: &[u8],

@@ -1,6 +1,6 @@
 // Where a transfer finds its words (definition, DMA; notes s11).
-ghost use Rattle.std.specs.Prelude.{◌≡◌, ◌*◌, take, drop};
-ghost use Rattle.vdp_dma.specs.Source.{word_from, words_next, next_source};
+ghost use Rattle.std.specs.Prelude.{◌≡◌, ◌%◌, cond};
+ghost use Rattle.vdp_dma.specs.Source.{work_ram, word_from, words_next, next_source};
 
 use vdp_ports::length::Words;
 use vdp_state::cell::word_at;
@@ -15,37 +15,35 @@ pub struct Memories<'a> {
     pub ram: &'a [u8],
 }
 
-// Up to `count` bytes from `at` on.
-fn part<'a>(memory: &'a [u8], at: usize, count: usize) -> &'a [u8]
-    ensures { result.now ≡ take count (drop at memory.now) }
-{
-    let rest = &memory[at.min(memory.len())..];
-    &rest[..count.min(rest.len())]
-}
-
 impl<'a> Memories<'a> {
-    // The part that holds the words next to be moved, as many as are wanted or as lie there up to its end; empty where
-    // the source is in neither memory.
+    // The memory that a source lies in, if it lies in one, and its place there.
+    fn place_of(self, source: u32) -> (&'a [u8], u32)
+        ensures memory { result.0.now ≡ cond (work_ram source) self.entry.ram.now self.entry.cartridge.now }
+        ensures place { result.1 ≡ cond (work_ram source) (source % 65536) source }
+    {
+        if WORK_RAM <= source {
+            (self.ram, source % 65536)
+        } else {
+            (self.cartridge, source)
+        }
+    }
+
+    // The bytes of the words next to be moved, as many as are wanted or as lie in one memory up to its end; none where
+    // the source is in neither.
     pub fn words_next(self, source: u32, wanted: Words) -> &'a [u8]
         ensures { result.now ≡ words_next self.entry.cartridge.now self.entry.ram.now source wanted }
     {
-        let count = 2 * wanted.0 as usize;
-        if WORK_RAM <= source {
-            part(self.ram, (source % 65536) as usize, count)
-        } else {
-            part(self.cartridge, source as usize, count)
-        }
+        let (memory, place) = self.place_of(source);
+        let rest = &memory[memory.len().min(place as usize)..];
+        &rest[..rest.len().min(2 * wanted.0 as usize)]
     }
 
     // The word at a source; 0 where it lies in neither memory.
     pub fn word_from(self, source: u32) -> u16
         ensures { result ≡ word_from self.entry.cartridge.now self.entry.ram.now source }
     {
-        if WORK_RAM <= source {
-            word_at(self.ram, source % 65536)
-        } else {
-            word_at(self.cartridge, source)
-        }
+        let (memory, place) = self.place_of(source);
+        word_at(memory, place)
     }
 }
 

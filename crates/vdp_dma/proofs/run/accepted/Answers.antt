@@ -1,5 +1,5 @@
 -- By the DMA kind; a run that is not refused has what each kind's function asks.
-use Rattle.std.proofs.Common.{ℕ, List, Bool, cond, rules, ◌≤◌, ◌<◌, ◌≡◌, sym, ap, subst, ◌∙◌, arith}
+use Rattle.std.proofs.Common.{ℕ, List, Bool, cond, rules, ◌<◌, ◌≡◌, sym, ap, subst, ◌∙◌, arith}
 use mathlib.Core.Path.{ap₂}
 use borrow.Author.Tests.{eqb-true, eqb-false}
 use Rattle.vdp_dma.proofs.Accepted.{accepted, accepted_ready, fill_ran, copy_ran}
@@ -16,11 +16,10 @@ use Rattle.vdp_state.specs.declared.state.State.{State}
 use Rattle.vdp_state.specs.declared.state.Store.TheVariants.{Nothing}
 use Rattle.vdp_dma.proofs.run.accepted.Goals as goal
 
--- what a run of bytes that is not refused has: units that remain, and no more of them to make
-bytes_left : (s : State) (vram cartridge ram : List ℕ) (budget n : ℕ) → first (run_tests (chip s vram) cartridge ram budget) ≡ 0 → 1 < s.control.dma.kind
-    → n ≡ units_made s budget → (0 < s.control.dma.remaining) × (n ≤ s.control.dma.remaining)
-bytes_left s vram cartridge ram budget n done kind made =
-    (some_remaining _ (state_dma s (accepted (chip s vram) cartridge ram budget done).state) kind, omega (arith, made))
+-- a run of bytes that is not refused has units that remain
+some_left : (s : State) (vram cartridge ram : List ℕ) (budget : ℕ) → first (run_tests (chip s vram) cartridge ram budget) ≡ 0 → 1 < s.control.dma.kind → 0 < s.control.dma.remaining
+some_left s vram cartridge ram budget done kind =
+    some_remaining _ (state_dma s (accepted (chip s vram) cartridge ram budget done).state) kind
 
 pub transfer_units-requires-clause-ready : goal.transfer_units-requires-clause-ready
 transfer_units-requires-clause-ready c =
@@ -35,13 +34,15 @@ pub for_each_unit-requires-clause-left : goal.for_each_unit-requires-clause-left
 for_each_unit-requires-clause-left c =
     let a = c.args in
     let k : a.s.control.dma.kind ≡ 3 = eqb-true a.s.control.dma.kind 3 (sym c.is-2.ensures ∙ c.if-is-2.true) in
-    bytes_left a.s a.vram.now a.memories.cartridge.now a.memories.ram.now a.budget _ c.requires (omega (arith, k)) c.units_made-n.ensures
+    let some = some_left a.s a.vram.now a.memories.cartridge.now a.memories.ram.now a.budget c.requires (omega (arith, k)) in
+    (some, omega (arith, some, c.units_made-n.ensures))
 
 pub for_each_unit-requires-then-is-3-clause-left : goal.for_each_unit-requires-then-is-3-clause-left
 for_each_unit-requires-then-is-3-clause-left c =
     let a = c.args in
     let k : a.s.control.dma.kind ≡ 4 = eqb-true a.s.control.dma.kind 4 (sym c.is-3.ensures ∙ c.if-is-3.true) in
-    bytes_left a.s a.vram.now a.memories.cartridge.now a.memories.ram.now a.budget _ c.requires (omega (arith, k)) c.units_made-n.ensures
+    let some = some_left a.s a.vram.now a.memories.cartridge.now a.memories.ram.now a.budget c.requires (omega (arith, k)) in
+    (some, omega (arith, some, c.units_made-n.ensures))
 
 pub returns-then-is-2 : goal.returns-then-is-2
 returns-then-is-2 c =

@@ -2,7 +2,7 @@
 use Rattle.std.proofs.Common.{ℕ, ◌≡◌, ◌<◌, ◌+◌, ◌*◌, ◌/◌, List, [], get_or, length, sym, ap, ◌∙◌, arith}
 use mathlib.Core.Path.{ap₂}
 use Rattle.vdp_dma.proofs.Units.{units_control_next}
-use Rattle.vdp_dma.proofs.Words.{chunk_of_two, moved_turn, moved_end, word_moved}
+use Rattle.vdp_dma.proofs.Words.{chunk_of_two, moved_turn, word_moved}
 use Rattle.vdp_dma.specs.Source.{next_source}
 use Rattle.vdp_dma.specs.Transfer.{holding, colours_in, scrolls_in}
 use Rattle.vdp_dma.specs.Unit.{unit_control, units_control}
@@ -45,13 +45,3 @@ loop-word-preserved c =
           ∙ sym (word_moved a.s now l.colours l.scrolls l.vram w))
           ∙ l.invariant.moved;
     }
-
-pub returns : goal.returns
-returns c =
-    let l = c.loop-word in
-    let a = c.args in
-    let part = a.part.now in
-    let all : length c.as_chunks.result.0.now ≡ l.word-index = omega (arith, c.loop-word-test.false, l.auto.word-index-end) in
-    ap (λ (q : Control). chip (holding a.s q l.colours l.scrolls) l.vram)
-    (c.units_control.ensures ∙ ap (λ (n : ℕ). units_control a.s.control l.port n l.source) all)
-    ∙ sym (moved_end part l.word-index (chip (holding a.s (units_control a.s.control l.port l.word-index l.source) l.colours l.scrolls) l.vram) (omega (arith, all, c.as_chunks.ensures.front_len))) ∙ l.invariant.moved
