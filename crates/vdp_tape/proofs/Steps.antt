@@ -9,7 +9,6 @@ use lib.Dec.{eqb, ltb}
 use lib.ListN.{length}
 use Rattle.std.specs.Prelude.{Err}
 use Rattle.vdp_state.specs.declared.answer.Refusal.{Refusal}
-use Rattle.vdp_state.specs.declared.answer.Refusal.TheVariants.{BadState, BadBuffer, Busy, NotModelled, NoSuchPlace, TapeFull, SourceNotLent, BadRecord, NothingThere, BadScript, MissingRegister}
 use Rattle.vdp_state.specs.declared.state.State.{State}
 use Rattle.vdp_state.specs.declared.state.Step.{Step}
 use Rattle.vdp_state.specs.declared.state.Store.{Store}
@@ -27,6 +26,7 @@ use Rattle.vdp_tape.specs.Number.{capacity, recorded_number}
 use Rattle.vdp_tape.specs.OneStep.{OneStep, OffVram}
 use Rattle.vdp_tape.specs.Record.{step_of, record_at}
 use Rattle.vdp_tape.specs.Recorder.{Recorder, recorder, record_step, record_steps, Plan, TapeOutcome, tape_answer_of, tape_outcome, tape_outcome_at, recorded_by}
+use Rattle.vdp_tape.proofs.Numbers.{above_zero}
 use Rattle.vdp_tape.specs.StepBack.{undo, back_number}
 
 pub empty : (l : List ℕ) → length l ≡ 0 → l ≡ []
@@ -34,19 +34,6 @@ empty [] e = refl
 empty (x ∷ l) e = absurd (let bad : ⊥ = omega arith in bad)
 
 -- ---- refused
-pub above_zero : (x : Refusal) → eqb (number x) 0 ≡ false
-above_zero BadState = refl
-above_zero BadBuffer = refl
-above_zero Busy = refl
-above_zero NotModelled = refl
-above_zero NoSuchPlace = refl
-above_zero TapeFull = refl
-above_zero SourceNotLent = refl
-above_zero BadRecord = refl
-above_zero NothingThere = refl
-above_zero BadScript = refl
-above_zero MissingRegister = refl
-
 -- what a call leaves that is refused so
 pub refused : (p : Plan) (r : Recorder) (x : Refusal) → number x ≡ recorded_number p.tests r.count (capacity r.tape) p.steps → tape_outcome (tape_answer_of r.chip.state r.count (Err x)) r.chip.vram r.tape ≡ recorded_by p r
 refused p r x e =

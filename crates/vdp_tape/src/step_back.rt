@@ -6,7 +6,7 @@ ghost use Rattle.vdp_state.specs.Answer.{number_in};
 ghost use Rattle.vdp_state.specs.State.{chip};
 ghost use Rattle.vdp_tape.specs.Number.{capacity as capacity_of};
 ghost use Rattle.vdp_tape.specs.Recorder.{recorder, tape_answer_of, tape_outcome};
-ghost use Rattle.vdp_tape.specs.StepBack.{top_records, top_good, undo as undone, back_number, step_back};
+ghost use Rattle.vdp_tape.specs.StepBack.{top_records, undo as undone, back_number, step_back};
 
 use crate::number::{RECORD_SIZE, capacity};
 use crate::record::{good_record, step_of};
@@ -25,14 +25,6 @@ fn top(tape: &[u8], n: usize, k: usize) -> RChunksExact<'_, u8>
     ensures records { YieldsList rchunks_exact_steps (λ x. x.now) result (top_records tape.now n k) }
 {
     tape[RECORD_SIZE * (n - k)..RECORD_SIZE * n].rchunks_exact(RECORD_SIZE)
-}
-
-// Whether the top k of n records are good.
-fn top_good(tape: &[u8], n: usize, k: usize) -> bool
-    requires { (k ≤ n) × (n ≤ capacity_of tape.now) }
-    ensures { result ≡ top_good tape.now n k }
-{
-    top(tape, n, k).all(good_record)
 }
 
 // Undoes the top k of n records.
@@ -60,7 +52,7 @@ fn back_check(s: State, vram: &[u8], tape: &[u8], count: usize, k: usize) -> Res
     if count < k {
         return Err(Refusal::NothingThere);
     }
-    if !top_good(tape, count, k) {
+    if !top(tape, count, k).all(good_record) {
         return Err(Refusal::BadRecord);
     }
     Ok(())

@@ -1,13 +1,13 @@
 -- Refused, or drawn and recorded.
 use Rattle.std.proofs.Common.{◌≡◌, ℕ, false, cond, eqb, List, refl, sym, ap, subst, ◌∙◌}
-use Rattle.std.proofs.lemmas.Bool.{eq-eqb}
+use Rattle.std.proofs.lemmas.Bool.{eq-eqb, false≢true}
 use Rattle.std.proofs.lemmas.Result.{err_from_is_err_and}
 use Rattle.vdp_line.specs.Line.{LineOutcome, line_outcome, line_made, line_pixels}
-use Rattle.vdp_state.specs.Answer.{number_in, first, done}
+use Rattle.vdp_state.specs.Answer.{number as number_of, number_in, first, done, refused as refused_answer}
 use Rattle.vdp_state.specs.State.{chip}
 use Rattle.vdp_state.specs.declared.state.Store.TheVariants.{Nothing}
-use Rattle.vdp_tape.proofs.Numbers.{recorded_number_lem, accepted}
-use Rattle.vdp_tape.proofs.Steps.{above_zero, refused}
+use Rattle.vdp_tape.proofs.Numbers.{above_zero, recorded_number_lem, accepted}
+use Rattle.vdp_tape.proofs.Steps.{refused}
 use Rattle.vdp_tape.specs.Line.{line_tape_outcome}
 use Rattle.vdp_tape.specs.Number.{capacity}
 use Rattle.vdp_tape.specs.Recorded.{Line, plan_of}
@@ -35,6 +35,17 @@ returns-in_err-with_tape c =
     let number = ap number_in (sym c.in_err-with_tape.was) ∙ c.with_tape.ensures.is plan.tests c.line_check.ensures in
     let p = err_from_is_err_and c.from_residual.result c.from_residual.ensures.1 in
     rw (p.1, p.2) (line_refused _ (recorded_by plan before) (refused plan before x number) (line_pixels before.chip a.line a.pixels.now) a.pixels.now (above_zero x))
+
+-- the plain line is not refused where its check passed
+pub returns-in_err-drawn : goal.returns-in_err-drawn
+returns-in_err-drawn c =
+    let a = c.args in
+    let plan : Plan = plan_of (Line a.line a.pixels.now) (chip a.s a.vram.now) in
+    let number = ap number_in (sym c.in_ok-with_tape.was) ∙ c.with_tape.ensures.is plan.tests c.line_check.ensures in
+    let ok = accepted (first plan.tests) a.count (capacity a.tape.now) 1 (sym (recorded_number_lem plan.tests a.count (capacity a.tape.now) 1) ∙ sym number) in
+    let x = c.in_err-drawn.field-0.0 in
+    let made : line_outcome (refused_answer (number_of x) a.s) c.line.new.pixels ≡ line_made (chip a.s a.vram.now) a.line a.pixels.now = c.in_err-drawn.ensures ∙ simp ok.plain_done in
+    absurd (false≢true (sym (above_zero x) ∙ eq-eqb (number_of x) 0 (ap (λ (d : LineOutcome). d.answer.number) made)))
 
 pub returns : goal.returns
 returns c =
