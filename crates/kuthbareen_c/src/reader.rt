@@ -7,6 +7,7 @@ ghost use Rattle.vdp_reader.specs.Reader.{started as started_anew};
 ghost use Rattle.kuthbareen_c.specs.Answer.{with_delivered};
 
 use crate::answer::{LentDelivery, lend_delivery};
+use vdp_dma::source::Memories;
 use vdp_reader::deliver::deliver;
 use vdp_reader::end::{EndAnswer, end_notice};
 use vdp_reader::reader::{Reader, started};
@@ -22,11 +23,11 @@ pub extern "C" fn kuthbareen_start_reader() -> Reader
 
 // Delivers bytes to a reader, which makes one call at most.
 #[unsafe(no_mangle)]
-pub extern "C" fn kuthbareen_deliver<'a>(
+pub extern "C" fn kuthbareen_deliver(
     s: &mut State,
     vram: &mut [u8],
-    cartridge: &'a [u8],
-    ram: &'a [u8],
+    cartridge: &[u8],
+    ram: &[u8],
     pixels: &mut [u8],
     reader: Reader,
     bytes: &[u8],
@@ -34,7 +35,7 @@ pub extern "C" fn kuthbareen_deliver<'a>(
     ensures { deliver_outcome (with_delivered result s.new) vram.new pixels.new
         ≡ delivered reader bytes.now cartridge.now ram.now (chip s.old vram.old) pixels.old }
 {
-    lend_delivery(deliver(*s, vram, cartridge, ram, pixels, reader, bytes), s)
+    lend_delivery(deliver(*s, vram, Memories { cartridge, ram }, pixels, reader, bytes), s)
 }
 
 // Tells a reader that no more bytes come.

@@ -10,6 +10,7 @@ ghost use Rattle.kuthbareen_c.specs.Answer.{judged_as, with_item_state, with_scr
 use crate::answer::{
     LentItemAnswer, LentJudged, LentScriptAnswer, LentWritten, lend_item, lend_script,
 };
+use vdp_dma::source::Memories;
 use vdp_script::call::script_item;
 use vdp_script::judge::judge_script;
 use vdp_script::run::run_script;
@@ -18,27 +19,27 @@ use vdp_state::state::State;
 
 // Runs a script.
 #[unsafe(no_mangle)]
-pub extern "C" fn kuthbareen_run_script<'a>(
+pub extern "C" fn kuthbareen_run_script(
     s: &mut State,
     vram: &mut [u8],
-    cartridge: &'a [u8],
-    ram: &'a [u8],
+    cartridge: &[u8],
+    ram: &[u8],
     pixels: &mut [u8],
     script: &[u8],
 ) -> LentScriptAnswer
     ensures { script_outcome (with_script_state result s.new) vram.new pixels.new
         ≡ run_script script.now cartridge.now ram.now (chip s.old vram.old) pixels.old }
 {
-    lend_script(run_script(*s, vram, cartridge, ram, pixels, script), s)
+    lend_script(run_script(*s, vram, Memories { cartridge, ram }, pixels, script), s)
 }
 
 // Makes the call of the item that begins at a byte of a script.
 #[unsafe(no_mangle)]
-pub extern "C" fn kuthbareen_script_item<'a>(
+pub extern "C" fn kuthbareen_script_item(
     s: &mut State,
     vram: &mut [u8],
-    cartridge: &'a [u8],
-    ram: &'a [u8],
+    cartridge: &[u8],
+    ram: &[u8],
     pixels: &mut [u8],
     script: &[u8],
     at: usize,
@@ -46,7 +47,7 @@ pub extern "C" fn kuthbareen_script_item<'a>(
     ensures { script_item_outcome (with_item_state result s.new) vram.new pixels.new
         ≡ script_item script.now at cartridge.now ram.now (chip s.old vram.old) pixels.old }
 {
-    lend_item(script_item(*s, vram, cartridge, ram, pixels, script, at), at, s)
+    lend_item(script_item(*s, vram, Memories { cartridge, ram }, pixels, script, at), at, s)
 }
 
 // Judges a script as a whole, with this pending flag.

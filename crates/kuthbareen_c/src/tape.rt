@@ -8,6 +8,7 @@ ghost use Rattle.vdp_tape.specs.StepBack.{step_back};
 ghost use Rattle.kuthbareen_c.specs.Answer.{with_tape_state};
 
 use crate::answer::{LentTapeAnswer, lend_recorded};
+use vdp_dma::source::Memories;
 use vdp_state::state::State;
 use vdp_tape::calls::{
     control_write, control_write_byte, data_read, data_write, data_write_byte, new_frame, run,
@@ -153,7 +154,7 @@ pub extern "C" fn kuthbareen_recorded_run(
         ≡ recorded (Run cartridge.now ram.now budget)
         (recorder s.old vram.old tape.old count) }
 {
-    lend_recorded(run(*s, vram, cartridge, ram, tape, count, budget), count, s)
+    lend_recorded(run(*s, vram, Memories { cartridge, ram }, tape, count, budget), count, s)
 }
 
 // Draws a line: its pixel bytes, and the visits as the result.

@@ -28,9 +28,11 @@ pub fn units_made(s: State, budget: u32) -> u32
     budget.min(s.control.dma.remaining)
 }
 
-fn bad_memory(vram: &[u8], cartridge: &[u8], ram: &[u8]) -> bool
-    ensures { result ≡ (bad_memory vram.now cartridge.now ram.now).holds }
+fn bad_memory(vram: &[u8], memories: Memories) -> bool
+    ensures { result
+        ≡ (bad_memory vram.now memories.entry.cartridge.now memories.entry.ram.now).holds }
 {
+    let Memories { cartridge, ram } = memories;
     vram.len() != VRAM_SIZE
         || ram.len() != RAM_SIZE
         || cartridge.len() > MOST_CARTRIDGE
@@ -48,22 +50,17 @@ fn lacking(d: Dma, cartridge: &[u8], n: Words) -> bool
 
 // Whether a run is refused.
 #[tactic(auto, using(crate::proofs::Accepted::lacks))]
-pub fn run_check(
-    s: State,
-    vram: &[u8],
-    cartridge: &[u8],
-    ram: &[u8],
-    budget: u32,
-) -> Result<(), Refusal>
-    ensures { number_in result ≡ first (run_tests (chip s vram.now) cartridge.now ram.now budget) }
+pub fn run_check(s: State, vram: &[u8], memories: Memories, budget: u32) -> Result<(), Refusal>
+    ensures { number_in result
+        ≡ first (run_tests (chip s vram.now) memories.entry.cartridge.now memories.entry.ram.now budget) }
 {
     if !good(s) {
         return Err(Refusal::BadState);
     }
-    if bad_memory(vram, cartridge, ram) {
+    if bad_memory(vram, memories) {
         return Err(Refusal::BadBuffer);
     }
-    if lacking(s.control.dma, cartridge, Words(units_made(s, budget))) {
+    if lacking(s.control.dma, memories.cartridge, Words(units_made(s, budget))) {
         return Err(Refusal::SourceNotLent);
     }
     Ok(())
@@ -95,20 +92,19 @@ fn accepted(s: State, vram: &mut [u8; VRAM_SIZE], memories: Memories, budget: u3
 }
 
 // Makes DMA units, at most as many as the budget; the result is how many were made.
-pub fn run<'a>(
+pub fn run(
     s: State,
     vram: &mut [u8],
-    cartridge: &'a [u8],
-    ram: &'a [u8],
+    memories: Memories,
     budget: u32,
 ) -> Result<Done, Refusal>
     ensures { outcome (answer_of s result) vram.new
-        ≡ run_outcome (chip s vram.old) cartridge.now ram.now budget }
+        ≡ run_outcome (chip s vram.old) memories.entry.cartridge.now memories.entry.ram.now budget }
 {
-    run_check(s, vram, cartridge, ram, budget)?;
+    run_check(s, vram, memories, budget)?;
     let vram = vram.as_mut_array().unwrap();
     Ok(Done {
         result: units_made(s, budget),
-        state: accepted(s, vram, Memories { cartridge, ram }, budget),
+        state: accepted(s, vram, memories, budget),
     })
 }

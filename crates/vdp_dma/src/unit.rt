@@ -115,12 +115,12 @@ fn copy_step(s: State, vram: &[u8]) -> Step
 }
 
 // The unit that the chip makes next.
-pub fn unit_step(s: State, vram: &[u8], cartridge: &[u8], ram: &[u8]) -> Step
-    ensures { result ≡ unit cartridge.now ram.now (chip s vram.now) }
+pub fn unit_step(s: State, vram: &[u8], memories: Memories) -> Step
+    ensures { result ≡ unit memories.entry.cartridge.now memories.entry.ram.now (chip s vram.now) }
 {
     let dma = s.control.dma;
     if dma.is(DmaKind::Transfer) {
-        transfer_step(s, Memories { cartridge, ram }.word_from(dma.source))
+        transfer_step(s, memories.word_from(dma.source))
     } else if dma.is(DmaKind::Fill) {
         fill_step(s, vram)
     } else {

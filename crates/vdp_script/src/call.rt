@@ -6,6 +6,7 @@ ghost use Rattle.vdp_script.specs.Call.{item_outcome, call_item, item_answer_of,
 
 use crate::item::{Item, item_at};
 use vdp_dma::run::run;
+use vdp_dma::source::Memories;
 use vdp_line::line::line;
 use vdp_ports::control::control_write;
 use vdp_ports::data::{data_read, data_write};
@@ -24,43 +25,41 @@ pub struct ItemDone {
 
 // Makes the call of an item. The buffers go one by one, as C lends them: with a struct of them each contract would also
 // have to say that it holds the same ones as before.
-pub fn call_item<'a>(
+pub fn call_item(
     s: State,
     vram: &mut [u8],
-    cartridge: &'a [u8],
-    ram: &'a [u8],
+    memories: Memories,
     pixels: &mut [u8],
     item: Item,
 ) -> Result<Done, Refusal>
     ensures { item_outcome (answer_of s result) vram.new pixels.new
-        ≡ call_item item cartridge.now ram.now (chip s vram.old) pixels.old }
+        ≡ call_item item memories.entry.cartridge.now memories.entry.ram.now (chip s vram.old) pixels.old }
 {
     match item {
         Item::ControlWord(w) => control_write(s, w),
         Item::DataWord(w) => data_write(s, vram, w),
         Item::DataRead => data_read(s, vram),
         Item::StatusRead => status_read(s),
-        Item::Run(budget) => run(s, vram, cartridge, ram, u32::from(budget)),
+        Item::Run(budget) => run(s, vram, memories, u32::from(budget)),
         Item::Line(n) => line(s, vram, u32::from(n), pixels),
         Item::NewFrame => new_frame(s),
     }
 }
 
 // Makes the call of the item that begins at a byte of a script.
-pub fn script_item<'a>(
+pub fn script_item(
     s: State,
     vram: &mut [u8],
-    cartridge: &'a [u8],
-    ram: &'a [u8],
+    memories: Memories,
     pixels: &mut [u8],
     script: &[u8],
     at: usize,
 ) -> Result<ItemDone, Refusal>
     ensures { script_item_outcome (item_answer_of s at result) vram.new pixels.new
-        ≡ script_item script.now at cartridge.now ram.now (chip s vram.old) pixels.old }
+        ≡ script_item script.now at memories.entry.cartridge.now memories.entry.ram.now (chip s vram.old) pixels.old }
 {
     let item = item_at(script, at).ok_or(Refusal::BadScript)?;
-    let done = call_item(s, vram, cartridge, ram, pixels, item)?;
+    let done = call_item(s, vram, memories, pixels, item)?;
     Ok(ItemDone {
         result: done.result,
         next: at + item.size(),

@@ -6,6 +6,7 @@ ghost use Rattle.vdp_script.specs.Run.{run_answer_of, script_outcome, run_script
 use crate::call::call_item;
 use crate::form::{Fault, items_of};
 use crate::judge::judge_script;
+use vdp_dma::source::Memories;
 use vdp_state::state::State;
 
 // How many items there are, or what was refused and at which place, and the state.
@@ -17,16 +18,15 @@ pub struct ScriptAnswer {
 
 // Runs a script: it is judged as a whole, and then its plain calls are made in their order, up to the first that is
 // refused.
-pub fn run_script<'a>(
+pub fn run_script(
     s: State,
     vram: &mut [u8],
-    cartridge: &'a [u8],
-    ram: &'a [u8],
+    memories: Memories,
     pixels: &mut [u8],
     script: &[u8],
 ) -> ScriptAnswer
     ensures { script_outcome (run_answer_of result) vram.new pixels.new
-        ≡ run_script script.now cartridge.now ram.now (chip s vram.old) pixels.old }
+        ≡ run_script script.now memories.entry.cartridge.now memories.entry.ram.now (chip s vram.old) pixels.old }
 {
     let mut state = s;
     let ended = judge_script(s.control.port.pending, script);
@@ -34,7 +34,7 @@ pub fn run_script<'a>(
         return ScriptAnswer { ended, state };
     }
     for (place, item) in items_of(script).enumerate() {
-        match call_item(state, vram, cartridge, ram, pixels, item) {
+        match call_item(state, vram, memories, pixels, item) {
             Ok(done) => state = done.state,
             Err(refusal) => {
                 let ended = Err(Fault { refusal, place });

@@ -12,6 +12,7 @@ ghost use Rattle.vdp_tape.specs.Recorder.{Plan, recorder, record_steps, tape_ans
 use crate::number::with_tape;
 use crate::recorder::{Recorded, record_one, record_step};
 use vdp_dma::run::{run_check, units_made};
+use vdp_dma::source::Memories;
 use vdp_dma::unit::unit_step;
 use vdp_ports::control::{control_check, control_step};
 use vdp_ports::data::{data_check, data_read_step, data_word, data_write_step};
@@ -118,19 +119,18 @@ pub fn data_read(s: State, vram: &[u8], tape: &mut [u8], count: usize) -> Result
 fn record_units(
     s: State,
     vram: &mut [u8],
-    cartridge: &[u8],
-    ram: &[u8],
+    memories: Memories,
     tape: &mut [u8],
     count: usize,
     steps: u32,
 ) -> State
     requires { count + steps ≤ capacity tape.old }
     ensures { recorder result vram.new tape.new (count + steps)
-        ≡ record_steps (unit cartridge.now ram.now) steps (recorder s vram.old tape.old count) }
+        ≡ record_steps (unit memories.entry.cartridge.now memories.entry.ram.now) steps (recorder s vram.old tape.old count) }
 {
     let mut next = s;
     for i in 0..steps {
-        let t = unit_step(next, vram, cartridge, ram);
+        let t = unit_step(next, vram, memories);
         next = record_step(next, vram, tape, count + i as usize, t);
     }
     next
@@ -140,21 +140,20 @@ fn record_units(
 pub fn run(
     s: State,
     vram: &mut [u8],
-    cartridge: &[u8],
-    ram: &[u8],
+    memories: Memories,
     tape: &mut [u8],
     count: usize,
     budget: u32,
 ) -> Result<Recorded, Refusal>
     ensures { tape_outcome (tape_answer_of s count result) vram.new tape.new
-        ≡ recorded (Run cartridge.now ram.now budget) (recorder s vram.old tape.old count) }
+        ≡ recorded (Run memories.entry.cartridge.now memories.entry.ram.now budget) (recorder s vram.old tape.old count) }
 {
-    let check = run_check(s, vram, cartridge, ram, budget);
+    let check = run_check(s, vram, memories, budget);
     let made = units_made(s, budget);
     with_tape(check, tape, count, made)?;
     Ok(Recorded {
         result: made,
         count: count + made as usize,
-        state: record_units(s, vram, cartridge, ram, tape, count, made),
+        state: record_units(s, vram, memories, tape, count, made),
     })
 }

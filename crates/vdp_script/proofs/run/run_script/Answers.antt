@@ -9,12 +9,12 @@ returns-in-Err c =
     let a = c.args in
     let l = c.loop-place in
     let turn = c.in-Some.ensures.steps in
-    stopped_at a.script.now a.cartridge.now a.ram.now (chip a.s a.vram.now) a.pixels.now _ c.judge_script-ended.ensures (cc) _
-    (refused_here a.cartridge.now a.ram.now l.state l.vram c.call_item.new.vram l.pixels c.call_item.new.pixels c.in-Some.item c.in-Err.refusal c.in-Err.ensures turn.0.0 turn.1
+    stopped_at a.script.now a.memories.cartridge.now a.memories.ram.now (chip a.s a.vram.now) a.pixels.now _ c.judge_script-ended.ensures (cc) _
+    (refused_here a.memories.cartridge.now a.memories.ram.now l.state l.vram c.call_item.new.vram l.pixels c.call_item.new.pixels c.in-Some.item c.in-Err.refusal c.in-Err.ensures turn.0.0 turn.1
     ∙ l.invariant.3)
 
 pub returns : goal.returns
 returns c =
     let a = c.args in
     let l = c.loop-place in
-    ended_at_last a.script.now a.cartridge.now a.ram.now (chip a.s a.vram.now) a.pixels.now _ c.judge_script-ended.ensures (cc) _ _ l.state l.vram l.pixels (c.in-None.ensures.steps).0.0.0 l.invariant.2 l.invariant.3
+    ended_at_last a.script.now a.memories.cartridge.now a.memories.ram.now (chip a.s a.vram.now) a.pixels.now _ c.judge_script-ended.ensures (cc) _ _ l.state l.vram l.pixels (c.in-None.ensures.steps).0.0.0 l.invariant.2 l.invariant.3

@@ -13,4 +13,4 @@ invariant-loop-place l =
     let place = enumerate_count l.place-iterator in
     (goal.iterator-loop-place).can_next l.place-iterator × (goal.iterator-loop-place).is_finite l.place-iterator
     × (place + length left ≡ length all)
-    × (run_items left place l.cartridge l.ram (chip l.state l.vram) l.pixels ≡ run_items all 0 l.cartridge l.ram (chip l.initial.state l.initial.vram) l.initial.pixels)
+    × (run_items left place l.memories.cartridge.now l.memories.ram.now (chip l.state l.vram) l.pixels ≡ run_items all 0 l.memories.cartridge.now l.memories.ram.now (chip l.initial.state l.initial.vram) l.initial.pixels)

@@ -10,7 +10,7 @@ loop-i-preserved c =
     let l = c.loop-i in
     let a = c.args in
     let p = c.record_step-next in
-    let step = unit a.cartridge.now a.ram.now in
+    let step = unit a.memories.cartridge.now a.memories.ram.now in
     let here = recorder l.next l.vram l.tape (a.count + l.i) in
     let next : a.count + (l.i + 1) ≡ a.count + l.i + 1 = omega arith in
     ap (λ (n : ℕ). record_steps step (a.steps - (l.i + 1)) (recorder p.result p.new.vram p.new.tape n)) next

@@ -5,4 +5,4 @@ use Rattle.vdp_tape.specs.Recorder.{recorder, record_steps}
 use Rattle.vdp_tape.proofs.calls.record_units.Given as goal
 
 abbrev pub invariant-loop-i : goal.invariant-loop-i
-invariant-loop-i l = record_steps (unit l.cartridge l.ram) (l.steps - l.i) (recorder l.next l.vram l.tape (l.count + l.i)) ≡ record_steps (unit l.cartridge l.ram) l.steps (recorder l.initial.next l.initial.vram l.initial.tape l.count)
+invariant-loop-i l = record_steps (unit l.memories.cartridge.now l.memories.ram.now) (l.steps - l.i) (recorder l.next l.vram l.tape (l.count + l.i)) ≡ record_steps (unit l.memories.cartridge.now l.memories.ram.now) l.steps (recorder l.initial.next l.initial.vram l.initial.tape l.count)

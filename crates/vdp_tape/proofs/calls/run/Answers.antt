@@ -8,11 +8,11 @@ use Rattle.vdp_tape.proofs.calls.run.Goals as goal
 pub returns-in_err-with_tape : goal.returns-in_err-with_tape
 returns-in_err-with_tape c =
     let a = c.args in
-    let number = c.with_tape.ensures.is (run_tests (chip a.s a.vram.now) a.cartridge.now a.ram.now a.budget) c.run_check-check.ensures in
+    let number = c.with_tape.ensures.is (run_tests (chip a.s a.vram.now) a.memories.cartridge.now a.memories.ram.now a.budget) c.run_check-check.ensures in
     grind (arith, common_steps)
 
 pub returns : goal.returns
 returns c =
     let a = c.args in
-    let number = c.with_tape.ensures.is (run_tests (chip a.s a.vram.now) a.cartridge.now a.ram.now a.budget) c.run_check-check.ensures in
+    let number = c.with_tape.ensures.is (run_tests (chip a.s a.vram.now) a.memories.cartridge.now a.memories.ram.now a.budget) c.run_check-check.ensures in
     grind (arith, common_steps)
