@@ -28,6 +28,7 @@ pub fn units_made(s: State, budget: u32) -> u32
     budget.min(s.control.dma.remaining)
 }
 
+// Whether one of the memories has a wrong size.
 fn bad_memory(vram: &[u8], cartridge: &[u8], ram: &[u8]) -> bool
     ensures { result ≡ (bad_memory vram.now cartridge.now ram.now).holds }
 {
@@ -106,7 +107,7 @@ pub fn run<'a>(
         ≡ run_outcome (chip s vram.old) cartridge.now ram.now budget }
 {
     run_check(s, vram, cartridge, ram, budget)?;
-    let vram = vram.as_mut_array().unwrap();
+    let vram = vram.as_mut_array().unwrap(); // its length is tested
     Ok(Done {
         result: units_made(s, budget),
         state: accepted(s, vram, Memories { cartridge, ram }, budget),
