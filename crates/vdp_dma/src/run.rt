@@ -28,6 +28,7 @@ pub fn units_made(s: State, budget: u32) -> u32
     budget.min(s.control.dma.remaining)
 }
 
+// Whether one of the memories has a wrong size.
 fn bad_memory(vram: &[u8], memories: Memories) -> bool
     ensures { result
         ≡ (bad_memory vram.now memories.entry.cartridge.now memories.entry.ram.now).holds }
@@ -102,7 +103,7 @@ pub fn run(
         ≡ run_outcome (chip s vram.old) memories.entry.cartridge.now memories.entry.ram.now budget }
 {
     run_check(s, vram, memories, budget)?;
-    let vram = vram.as_mut_array().unwrap();
+    let vram = vram.as_mut_array().unwrap(); // its length is tested
     Ok(Done {
         result: units_made(s, budget),
         state: accepted(s, vram, memories, budget),

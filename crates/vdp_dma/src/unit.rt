@@ -24,15 +24,13 @@ fn units_dma(d: Dma, n: u32, source: u32) -> Dma
     }
 }
 
-// The control part once n units are made.
-pub fn units_control(c: Control, port: Port, n: u32, source: u32) -> Control
+// The control part once n units are made, changed in place: with `Control { port, dma, ..c }` a step is slower.
+pub fn units_control(mut c: Control, port: Port, n: u32, source: u32) -> Control
     ensures { result ≡ units_control c port n source }
 {
-    Control {
-        port,
-        dma: units_dma(c.dma, n, source),
-        ..c
-    }
+    c.port = port;
+    c.dma = units_dma(c.dma, n, source);
+    c
 }
 
 // The control part after a unit.
