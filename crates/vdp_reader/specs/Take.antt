@@ -1,5 +1,6 @@
 -- What a byte does in each stage of a reader: definition, Scripts, The reader.
 use Rattle.std.specs.Prelude.{ℕ, ◌+◌, ◌*◌, Bool, cond, eqb, Option, Some, None}
+use Rattle.vdp_script.specs.declared.item.Item.{Item}
 use Rattle.vdp_script.specs.declared.item.Item.TheVariants.{DataRead, StatusRead, NewFrame}
 use Rattle.vdp_script.specs.Form.{version}
 use Rattle.vdp_script.specs.Item.{item_from}

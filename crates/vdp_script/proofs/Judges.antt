@@ -69,18 +69,15 @@ none_before_form pending items false false m e = all_before pending items m
 pub none_before : (pending : Bool) (f : Form) → (judged_as pending f).number ≡ 0 → (judged_as pending f).place ≡ length f.items
 none_before pending f e = none_before_form pending f.items f.faulty (any_missing pending f.items) refl e
 
-module _ (pending : Bool) (script : List ℕ) (n : ℕ) (e : judgement 0 n ≡ form_judged (form_of script)) where
-  zero : (form_judged (form_of script)).number ≡ 0
-  zero = sym (ap (λ (x : Judged). x.number) e)
-
+module _ (pending : Bool) (script : List ℕ) (zero : (form_judged (form_of script)).number ≡ 0) where
   pub missing_judged : registers_judged pending (items_at script 1) ≡ judged pending script
   missing_judged =
       sym (ap (λ (f : Form). registers_judged pending f.items) (right_form script (whole pending (form_of script) zero)))
       ∙ by_registers pending (form_of script) zero
 
-  pub all_judged : any_missing pending (items_at script 1) ≡ false → judgement 0 n ≡ judged pending script
+  pub all_judged : any_missing pending (items_at script 1) ≡ false → judgement 0 (form_judged (form_of script)).place ≡ judged pending script
   all_judged none =
       let right : form_of script ≡ items_from 0 (drop 1 script) = right_form script (whole pending (form_of script) zero) in
-      let count : n ≡ length (items_at script 1) = ap (λ (x : Judged). x.place) e ∙ ap (λ (f : Form). length f.items) right in
+      let count : (form_judged (form_of script)).place ≡ length (items_at script 1) = ap (λ (f : Form). length f.items) right in
       ap₂ judgement (sym (ap (λ (b : Bool). first (gives 12 b ∷ [])) none)) (count ∙ sym (all_before pending (items_at script 1) none))
       ∙ missing_judged

@@ -1,5 +1,5 @@
 -- The numbers a call may answer, their order, and what a refused call answers: definition, Numbers a call may answer.
-use Rattle.std.specs.Prelude.{ℕ, ◌≡◌, Bool, false, cond, ◌&&◌, ◌||◌, List, [], ◌∷◌, eqb, Result, Ok, Err}
+use Rattle.std.specs.Prelude.{ℕ, ◌≡◌, Bool, false, cond, ◌&&◌, ◌||◌, List, [], ◌∷◌, eqb, Option, Some, None, Result, Ok, Err}
 use Rattle.vdp_state.specs.declared.state.State.{State}
 use Rattle.vdp_state.specs.declared.state.Step.{Step}
 use Rattle.vdp_state.specs.declared.answer.Done.{Done}
@@ -63,6 +63,21 @@ number BadRecord = 8
 number NothingThere = 10
 number BadScript = 11
 number MissingRegister = 12
+
+-- the refusal that has a number
+abbrev pub refusal_of : ℕ → Option Refusal
+refusal_of n =
+    cond (eqb n 1) (Some BadState)
+    (cond (eqb n 2) (Some BadBuffer)
+    (cond (eqb n 3) (Some Busy)
+    (cond (eqb n 4) (Some NotModelled)
+    (cond (eqb n 5) (Some NoSuchPlace)
+    (cond (eqb n 6) (Some TapeFull)
+    (cond (eqb n 7) (Some SourceNotLent)
+    (cond (eqb n 8) (Some BadRecord)
+    (cond (eqb n 10) (Some NothingThere)
+    (cond (eqb n 11) (Some BadScript)
+    (cond (eqb n 12) (Some MissingRegister) None))))))))))
 
 -- the number of a call that is done, or is refused with its reason
 abbrev pub number_in : {A : Type 0} → Result A Refusal → ℕ

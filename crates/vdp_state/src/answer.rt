@@ -1,7 +1,7 @@
 // The numbers a call may answer (definition, Numbers a call may answer) and the answers that carry them. 9 is never
 // given.
 ghost use Rattle.std.specs.Prelude.{◌≡◌, Ok};
-ghost use Rattle.vdp_state.specs.Answer.{number as number_of, number_in, answer_of, answered as answered_as, outcome, served};
+ghost use Rattle.vdp_state.specs.Answer.{number as number_of, refusal_of, number_in, answer_of, answered as answered_as, outcome, served};
 ghost use Rattle.vdp_state.specs.State.{chip};
 
 use crate::cell::{after, store_in};
@@ -32,6 +32,26 @@ impl Refusal {
         ensures { result ≡ number_of self }
     {
         self as u8
+    }
+
+    // The refusal that has a number.
+    pub fn of(number: u8) -> Option<Refusal>
+        ensures { result ≡ refusal_of number }
+    {
+        match number {
+            1 => Some(Refusal::BadState),
+            2 => Some(Refusal::BadBuffer),
+            3 => Some(Refusal::Busy),
+            4 => Some(Refusal::NotModelled),
+            5 => Some(Refusal::NoSuchPlace),
+            6 => Some(Refusal::TapeFull),
+            7 => Some(Refusal::SourceNotLent),
+            8 => Some(Refusal::BadRecord),
+            10 => Some(Refusal::NothingThere),
+            11 => Some(Refusal::BadScript),
+            12 => Some(Refusal::MissingRegister),
+            _ => None,
+        }
     }
 }
 
