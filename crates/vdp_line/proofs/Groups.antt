@@ -11,14 +11,12 @@ use Rattle.vdp_state.specs.State.{Chip}
 use Rattle.vdp_ports.specs.Length.{register}
 use Rattle.vdp_draw.specs.Width.{width_of}
 use Rattle.vdp_line.proofs.Bounds.{cells_range}
-use Rattle.vdp_line.specs.declared.plane.Row.{Row}
-use Rattle.vdp_line.specs.declared.view.View.{View}
 use Rattle.vdp_line.specs.Intensity.{pixel}
 use Rattle.vdp_line.specs.Layer.{horizontal, row_a, row_b}
 use Rattle.vdp_line.specs.Layout.{bit, wide, shadow, backdrop, code_across, code_down}
-use Rattle.vdp_line.specs.Plane.{plane_a, plane_b, window, window_columns, row_of, row_dot, side}
+use Rattle.vdp_line.specs.Plane.{Row, plane_a, plane_b, window, window_columns, row_of, row_dot, side}
 use Rattle.vdp_line.specs.Line.{mixed}
-use Rattle.vdp_line.specs.View.{view_of, scroll_word, row_a_at, row_b_at}
+use Rattle.vdp_line.specs.View.{View, view_of, scroll_word, row_a_at, row_b_at}
 
 module _ (c : Chip) (line g x : ℕ) (first : 16 * g ≤ x) (last : x < 16 * g + 16) where
   group : g ≡ x / 16

@@ -13,13 +13,11 @@ use Rattle.vdp_draw.proofs.Inside.{pattern_inside, word_same, block_same}
 use Rattle.vdp_sprites.specs.Sprite.{sprite_place}
 use Rattle.vdp_sprites.specs.Walk.{most_visits}
 use Rattle.vdp_sprites.proofs.Inside.{sprites_same}
-use Rattle.vdp_line.specs.declared.plane.Plane.{Plane}
-use Rattle.vdp_line.specs.declared.plane.Row.{Row}
 use Rattle.vdp_line.specs.Inside.{ReadsInside, TablesInside, NothingPastEnd}
 use Rattle.vdp_line.specs.Layer.{horizontal, row_a, row_b, dot_a, dot_b}
 use Rattle.vdp_line.specs.Layout.{wide, height, base_sprites, scroll_place, vertical}
 use Rattle.vdp_line.specs.Line.{plane_cells, most_cells, line_made}
-use Rattle.vdp_line.specs.Plane.{plane_a, plane_b, window, row_of, across, cell_place, row_dot, in_window}
+use Rattle.vdp_line.specs.Plane.{Plane, Row, plane_a, plane_b, window, row_of, across, cell_place, row_dot, in_window}
 use Rattle.vdp_line.proofs.Accepted.{accepted}
 use Rattle.vdp_line.proofs.Bounds.{pixel_small, scroll_line_small, height_small}
 use Rattle.vdp_line.proofs.Groups.{sized}

@@ -1,4 +1,5 @@
 pub mod Bench
+pub mod Extent
 pub mod Inside
 pub mod Intensity
 pub mod Layer

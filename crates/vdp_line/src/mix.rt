@@ -4,6 +4,14 @@ ghost use Rattle.vdp_line.specs.Mix.{in_front, mix as mixed};
 
 use vdp_draw::dot::{high, solid};
 
+// The dots of a column: plane B's, that of plane A or the window, and the sprites'.
+#[derive(Clone, Copy)]
+pub(crate) struct Dots {
+    pub b: u8,
+    pub a: u8,
+    pub sprite: u8,
+}
+
 // Whether a dot is solid and of high priority.
 pub(crate) fn in_front(dot: u8) -> bool
     ensures { result ≡ in_front dot }
@@ -13,9 +21,10 @@ pub(crate) fn in_front(dot: u8) -> bool
 
 // The colour index that shows, asked from the front.
 #[tactic(auto, unfolding(crate::specs::Mix::mix))]
-pub(crate) fn mix(backdrop: u8, b: u8, a: u8, sprite: u8) -> u8
-    ensures { result ≡ mixed backdrop b a sprite }
+pub(crate) fn mix(backdrop: u8, dots: Dots) -> u8
+    ensures { result ≡ mixed backdrop dots.b dots.a dots.sprite }
 {
+    let Dots { b, a, sprite } = dots;
     if in_front(sprite) {
         return sprite % 64;
     }
