@@ -18,17 +18,14 @@ pub fn high(dot: u8) -> bool
     64 <= dot
 }
 
-// One of n places, counted from the other end where it is flipped. The difference stays written out: with the library's
-// saturating_sub, in four forms, a line took 2 to 13 % longer.
+// One of n places, counted from the other end where it is flipped.
 fn flipped(flip: bool, n: u16, i: u16) -> u16
     ensures { result ≡ flipped_place flip n i }
 {
-    if !flip {
-        i
-    } else if i < n {
-        n - 1 - i
+    if flip {
+        n.saturating_sub(i).saturating_sub(1)
     } else {
-        0
+        i
     }
 }
 

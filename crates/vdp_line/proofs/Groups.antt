@@ -12,7 +12,7 @@ use Rattle.vdp_ports.specs.Length.{register}
 use Rattle.vdp_draw.specs.Width.{width_of}
 use Rattle.vdp_line.proofs.Bounds.{cells_range}
 use Rattle.vdp_line.specs.Intensity.{pixel}
-use Rattle.vdp_line.specs.Layer.{horizontal, row_a, row_b}
+use Rattle.vdp_line.specs.Layer.{horizontal, row_a, row_b, dot_a, dot_b}
 use Rattle.vdp_line.specs.Layout.{bit, wide, shadow, backdrop, code_across, code_down}
 use Rattle.vdp_line.specs.Plane.{Row, plane_a, plane_b, window, window_columns, row_of, row_dot, side}
 use Rattle.vdp_line.specs.Line.{mixed}
@@ -84,10 +84,10 @@ whole_groups true = (refl, omega arith)
 whole_groups false = (refl, omega arith)
 
 -- the pixel byte of a column, by its group
-abbrev pub group_pixel : View → List ℕ → List ℕ → ℕ → List ℕ → Bool → ℕ → ℕ → ℕ → ℕ
-group_pixel v vsram vram line dots shaded back g y = pixel shaded back (row_dot vram (row_b_at v vsram g line) y) (row_dot vram (row_a_at v vsram g line) y) (get_or dots y 0)
+abbrev pub group_pixel : (ℕ → ℕ → ℕ → ℕ) → View → List ℕ → List ℕ → ℕ → List ℕ → ℕ → ℕ → ℕ
+group_pixel p v vsram vram line dots g y = p (row_dot vram (row_b_at v vsram g line) y) (row_dot vram (row_a_at v vsram g line) y) (get_or dots y 0)
 
-pub group_pixel_is : (c : Chip) (line : ℕ) (dots : List ℕ) (y : ℕ) → group_pixel (view_of c line) c.state.vsram c.vram line dots (shadow c.state) (backdrop c.state) (y / 16) y ≡ mixed c line dots y
-group_pixel_is c line dots y =
-    ap₂ (λ (b a : Row). pixel (shadow c.state) (backdrop c.state) (row_dot c.vram b y) (row_dot c.vram a y) (get_or dots y 0))
+pub group_pixel_is : (p : ℕ → ℕ → ℕ → ℕ) (c : Chip) (line : ℕ) (dots : List ℕ) (y : ℕ) → group_pixel p (view_of c line) c.state.vsram c.vram line dots (y / 16) y ≡ p (dot_b c line y) (dot_a c line y) (get_or dots y 0)
+group_pixel_is p c line dots y =
+    ap₂ (λ (b a : Row). p (row_dot c.vram b y) (row_dot c.vram a y) (get_or dots y 0))
     (row_b_here c line (y / 16) y (omega arith) (omega arith)) (row_a_here c line (y / 16) y (omega arith) (omega arith))

@@ -1,4 +1,5 @@
 pub mod Bench
+pub mod Columns
 pub mod Extent
 pub mod Inside
 pub mod Intensity

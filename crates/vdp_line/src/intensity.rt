@@ -26,14 +26,6 @@ const DARKENS: u8 = 62;
 
 const LIGHTENS: u8 = 63;
 
-// Whether shadow and highlight are on, and the backdrop's colour index.
-#[derive(Clone, Copy)]
-pub(crate) struct Look {
-    pub shadow: bool,
-    pub backdrop: u8,
-    ghost index: { backdrop < 64 },
-}
-
 // What is drawn of the sprites' dot with shadow and highlight: nothing of an operator.
 fn sprite_drawn(sprite: u8) -> u8
     ensures { result ≡ sprite_drawn true sprite }
@@ -96,17 +88,15 @@ fn shade(dots: Dots) -> Intensity
     }
 }
 
-// The pixel byte of a column; without shadow it is mixed and no more.
+// The pixel byte of a column with shadow and highlight.
 #[tactic(auto, unfolding(crate::specs::Intensity::pixel, crate::specs::Intensity::intensity))]
-pub(crate) fn pixel(look: Look, dots: Dots) -> u8
-    ensures { result ≡ pixel_of look.shadow look.backdrop dots.b dots.a dots.sprite }
+pub(crate) fn shaded(backdrop: u8, dots: Dots) -> u8
+    requires { backdrop < 64 }
+    ensures { result ≡ pixel_of true backdrop dots.b dots.a dots.sprite }
 {
-    if look.shadow {
-        let drawn = Dots {
-            sprite: sprite_drawn(dots.sprite),
-            ..dots
-        };
-        return mix(look.backdrop, drawn) + shade(dots).number();
-    }
-    mix(look.backdrop, dots)
+    let drawn = Dots {
+        sprite: sprite_drawn(dots.sprite),
+        ..dots
+    };
+    mix(backdrop, drawn) + shade(dots).number()
 }

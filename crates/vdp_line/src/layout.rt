@@ -4,7 +4,6 @@ ghost use Rattle.vdp_line.specs.Layout.{wide as is_wide, shadow as is_shadow, he
 ghost use Rattle.vdp_line.specs.Extent.{cells_in};
 
 use crate::extent::{Extent, PlaneName};
-use crate::intensity::Look;
 use vdp_state::state::State;
 
 // A bit of a register, by its value.
@@ -22,7 +21,7 @@ pub(crate) fn wide(s: State) -> bool
 }
 
 // Whether shadow and highlight are on.
-fn shadow(s: State) -> bool
+pub(crate) fn shadow(s: State) -> bool
     ensures { result ≡ is_shadow s }
 {
     bit(s.registers[12], 8)
@@ -44,16 +43,6 @@ pub(crate) fn backdrop(s: State) -> u8
     ensures { result ≡ backdrop_of s }
 {
     s.registers[7] % 64
-}
-
-// How the columns of a line look.
-pub(crate) fn look_of(s: State) -> Look
-    ensures { (result.shadow ≡ is_shadow s) × (result.backdrop ≡ backdrop_of s) }
-{
-    Look {
-        shadow: shadow(s),
-        backdrop: backdrop(s),
-    }
 }
 
 // Where a plane's cells begin.
