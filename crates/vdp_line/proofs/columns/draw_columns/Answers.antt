@@ -1,6 +1,5 @@
 -- With shadow and highlight and without.
-use Rattle.std.proofs.Common.{◌≡◌, ℕ, true, false, sym, ◌∙◌, rules}
-use Rattle.vdp_draw.specs.Painted.{painted}
+use Rattle.std.proofs.Common.{◌≡◌, true, false, sym, ◌∙◌, rules}
 use Rattle.vdp_line.proofs.Intensities.{as_mixed}
 use Rattle.vdp_line.specs.Intensity.{pixel}
 use Rattle.vdp_line.specs.Layout.{shadow, backdrop}

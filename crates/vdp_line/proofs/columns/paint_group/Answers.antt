@@ -1,5 +1,5 @@
 -- One column more holds its pixel byte.
-use Rattle.std.proofs.Common.{◌≡◌, ℕ, ◌-◌, ◌*◌, get_or, set, ap, ap₂, ◌∙◌, arith}
+use Rattle.std.proofs.Common.{◌≡◌, ℕ, ◌-◌, ◌*◌, get_or, ap₂, ◌∙◌, arith}
 use Rattle.vdp_draw.proofs.Painted.{painted_turn}
 use Rattle.vdp_draw.specs.Painted.{painted}
 use Rattle.vdp_line.specs.Plane.{row_dot, row_in}
@@ -10,12 +10,9 @@ loop-x-preserved g c =
     let l = c.loop-x in
     let a = c.args in (
       l.invariant.0,
-      λ p h.
-          let front : ℕ → ℕ → ℕ = λ y old. p (row_dot a.vram.now (row_in a.rows.b) y) (row_dot a.vram.now (row_in a.rows.a) y) (get_or a.dots.now y 0) in
-          let rows = ap₂ (λ (b d : ℕ). p b d (get_or a.dots.now c.from-i.result 0)) c.row_dot.ensures c.row_dot-in-loop-x.ensures in
-          let place = ap (λ (i : ℕ). p (row_dot a.vram.now (row_in a.rows.b) l.x) (row_dot a.vram.now (row_in a.rows.a) l.x) (get_or a.dots.now i 0)) c.from-i.ensures in
-          ap₂ (set l.pixels) c.from-i.ensures (h _ _ c.shown.ensures ∙ rows ∙ place)
-          ∙ painted_turn front (16 * c.from-from.result) a.pixels.now l.x l.pixels (omega arith) (l.invariant.1 p h),
+      λ p h. let front : ℕ → ℕ → ℕ = λ y old. p (row_dot a.vram.now (row_in a.rows.b) y) (row_dot a.vram.now (row_in a.rows.a) y) (get_or a.dots.now y 0) in
+        let turn = painted_turn front (16 * c.from-from.result) a.pixels.now l.x l.pixels (omega arith) (l.invariant.1 p h) in
+        cc (turn, h _ _ c.shown.ensures),
     )
 
 pub returns : goal.returns
