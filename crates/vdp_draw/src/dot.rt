@@ -23,7 +23,7 @@ fn flipped(flip: bool, n: u16, i: u16) -> u16
     ensures { result ≡ flipped_place flip n i }
 {
     if flip {
-        n.saturating_sub(1).saturating_sub(i)
+        n.saturating_sub(i).saturating_sub(1)
     } else {
         i
     }

@@ -1,11 +1,11 @@
 // The call that draws a line (definition, Drawing).
-ghost use Rattle.std.specs.Prelude.{◌≡◌, Ok, true, false, length};
-ghost use Rattle.vdp_state.specs.Answer.{answer_of};
-ghost use Rattle.vdp_state.specs.State.{chip};
-ghost use Rattle.vdp_line.specs.Line.{flagged as flagged_control, blanked as blanked_control, line_outcome, line_made, line as line_of};
-ghost use Rattle.vdp_line.specs.Layout.{displayed as is_displayed};
+ghost use Rattle.std.specs.Prelude.{◌≡◌, Ok, true};
+ghost use Rattle.vdp_state.specs.Answer.{answer_of, done};
+ghost use Rattle.vdp_state.specs.State.{chip, with_control};
+ghost use Rattle.vdp_line.specs.Line.{flagged as flagged_control, blanked as blanked_control, drawn, line_outcome, line_made, line as line_of};
+ghost use Rattle.vdp_line.specs.Layout.{displayed as is_displayed, backdrop as backdrop_of};
 
-use crate::columns::{blank_columns, draw_columns};
+use crate::columns::draw_columns;
 use crate::layout::{backdrop, base_sprites, displayed, wide};
 use crate::number::line_check;
 use vdp_draw::width::width_of;
@@ -41,8 +41,8 @@ fn blanked(c: Control) -> Control
 }
 
 // Draws a displayed line.
-fn shown_line(s: State, vram: &[u8], line: u8, pixels: &mut [u8]) -> Done
-    requires { (is_displayed s ≡ true) × (length pixels.old ≡ 320) }
+fn shown_line(s: State, vram: &[u8], line: u8, pixels: &mut [u8; 320]) -> Done
+    requires { is_displayed s ≡ true }
     ensures { line_outcome (answer_of s (Ok result)) pixels.new
         ≡ line_made (chip s vram.now) line pixels.old }
 {
@@ -64,12 +64,11 @@ fn shown_line(s: State, vram: &[u8], line: u8, pixels: &mut [u8]) -> Done
 }
 
 // Blanks a line.
-fn blank_line(s: State, vram: &[u8], line: u8, pixels: &mut [u8]) -> Done
-    requires { (is_displayed s ≡ false) × (length pixels.old ≡ 320) }
-    ensures { line_outcome (answer_of s (Ok result)) pixels.new
-        ≡ line_made (chip s vram.now) line pixels.old }
+fn blank_line(s: State, pixels: &mut [u8; 320]) -> Done
+    ensures answer { answer_of s (Ok result) ≡ done 0 (with_control s (blanked_control s.control)) }
+    ensures columns { pixels.new ≡ drawn s (λ x. backdrop_of s) pixels.old }
 {
-    blank_columns(width_of(wide(s)), backdrop(s), pixels);
+    pixels[..width_of(wide(s)) as usize].fill(backdrop(s));
     Done {
         result: 0,
         state: State {
@@ -85,9 +84,11 @@ pub fn line(s: State, vram: &[u8], line: u32, pixels: &mut [u8]) -> Result<Done,
         ≡ line_of (chip s vram.now) line pixels.old }
 {
     line_check(s, vram, line, pixels)?;
-    if displayed(s) {
-        Ok(shown_line(s, vram, line as u8, pixels))
+    let number = line as u8;
+    let columns = pixels.as_mut_array().unwrap();
+    Ok(if displayed(s) {
+        shown_line(s, vram, number, columns)
     } else {
-        Ok(blank_line(s, vram, line as u8, pixels))
-    }
+        blank_line(s, columns)
+    })
 }

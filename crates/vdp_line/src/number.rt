@@ -16,7 +16,7 @@ pub const LINE_SIZE: usize = 320;
 fn plane_cells(s: State) -> u32
     ensures { result ≡ plane_cells s }
 {
-    (cells(code_across(s)) as u32) * (cells(code_down(s)) as u32)
+    u32::from(cells(code_across(s)).cells()) * u32::from(cells(code_down(s)).cells())
 }
 
 // Whether the registers ask for what is not modelled.
