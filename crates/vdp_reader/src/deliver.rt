@@ -7,6 +7,7 @@ ghost use Rattle.vdp_reader.specs.Deliver.{reach, after_call, delivery_answer_of
 use crate::reader::{Reader, answers, at_stage, goes_on, stopped};
 use crate::stage::Stage;
 use crate::take::{Taking, take_byte};
+use vdp_dma::source::Memories;
 use vdp_script::call::call_item;
 use vdp_script::item::Item;
 use vdp_script::missing::names_missing;
@@ -76,22 +77,21 @@ fn uncalled(reader: Reader, taken: usize, s: State) -> Delivery
 }
 
 // An item that is whole: its call is made, if it names no missing register.
-fn deliver_item<'a>(
+fn deliver_item(
     s: State,
     vram: &mut [u8],
-    cartridge: &'a [u8],
-    ram: &'a [u8],
+    memories: Memories,
     pixels: &mut [u8],
     item: Item,
     taken: usize,
 ) -> Delivery
     ensures { deliver_outcome (delivery_answer_of result) vram.new pixels.new
-        ≡ item_reached item taken cartridge.now ram.now (chip s vram.old) pixels.old }
+        ≡ item_reached item taken memories.entry.cartridge.now memories.entry.ram.now (chip s vram.old) pixels.old }
 {
     if names_missing(s.control.port.pending, item) {
         return uncalled(stopped(Err(Refusal::MissingRegister)), taken, s);
     }
-    let called = call_item(s, vram, cartridge, ram, pixels, item);
+    let called = call_item(s, vram, memories, pixels, item);
     let answer = called.map(|_| ());
     let done = called.unwrap_or(Done {
         result: 0,
@@ -107,17 +107,16 @@ fn deliver_item<'a>(
 }
 
 // Delivers bytes to a reader, which makes one call at most; the caller goes on with the bytes that were not taken.
-pub fn deliver<'a>(
+pub fn deliver(
     s: State,
     vram: &mut [u8],
-    cartridge: &'a [u8],
-    ram: &'a [u8],
+    memories: Memories,
     pixels: &mut [u8],
     reader: Reader,
     bytes: &[u8],
 ) -> Delivery
     ensures { deliver_outcome (delivery_answer_of result) vram.new pixels.new
-        ≡ delivered reader bytes.now cartridge.now ram.now (chip s vram.old) pixels.old }
+        ≡ delivered reader bytes.now memories.entry.cartridge.now memories.entry.ram.now (chip s vram.old) pixels.old }
 {
     if !goes_on(reader) {
         return uncalled(reader, 0, s);
@@ -126,7 +125,7 @@ pub fn deliver<'a>(
     let taken = reached.taken;
     match reached.taking {
         Taking::Kept(next) => uncalled(next, taken, s),
-        Taking::Whole(item) => deliver_item(s, vram, cartridge, ram, pixels, item, taken),
+        Taking::Whole(item) => deliver_item(s, vram, memories, pixels, item, taken),
         Taking::Faulty => uncalled(stopped(Err(Refusal::BadScript)), taken, s),
     }
 }

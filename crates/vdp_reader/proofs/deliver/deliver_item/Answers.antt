@@ -7,6 +7,6 @@ use Rattle.vdp_reader.proofs.deliver.deliver_item.Goals as goal
 pub returns : goal.returns
 returns c =
     let a = c.args in
-    code_called a.cartridge.now a.ram.now (chip a.s a.vram.now) a.pixels.now a.item a.taken _ _ c.call_item-called.result _ _ _ c.call_item-called.ensures
+    code_called a.memories.cartridge.now a.memories.ram.now (chip a.s a.vram.now) a.pixels.now a.item a.taken _ _ c.call_item-called.result _ _ _ c.call_item-called.ensures
     (sym c.names_missing.ensures ∙ c.if-names_missing.false) c.unwrap_or-done.ensures
     (number_kept _ _ _ c.map-answer.ensures.cases c.map-answer.ensures.variant) c.after_call.ensures
