@@ -1,6 +1,8 @@
 -- What a call gives to a caller who lent the state: definition, Calls for a host program.
 use Rattle.vdp_state.specs.declared.state.State.{State}
 use Rattle.vdp_state.specs.Answer.{Answer}
+use Rattle.vdp_reader.specs.Deliver.{DeliveryAnswer}
+use Rattle.vdp_reader.specs.End.{EndAnswer}
 use Rattle.vdp_script.specs.Call.{ItemAnswer}
 use Rattle.vdp_script.specs.Form.{Judged}
 use Rattle.vdp_script.specs.Run.{RunAnswer}
@@ -10,6 +12,8 @@ use Rattle.kuthbareen_c.specs.declared.answer.LentAnswer.{LentAnswer}
 use Rattle.kuthbareen_c.specs.declared.answer.LentTapeAnswer.{LentTapeAnswer}
 use Rattle.kuthbareen_c.specs.declared.answer.LentItemAnswer.{LentItemAnswer}
 use Rattle.kuthbareen_c.specs.declared.answer.LentScriptAnswer.{LentScriptAnswer}
+use Rattle.kuthbareen_c.specs.declared.answer.LentDelivery.{LentDelivery}
+use Rattle.kuthbareen_c.specs.declared.answer.LentEnd.{LentEnd}
 use Rattle.kuthbareen_c.specs.declared.answer.LentJudged.{LentJudged}
 use Rattle.kuthbareen_c.specs.declared.answer.LentWritten.{LentWritten}
 
@@ -34,3 +38,11 @@ judged_as g = record { number = g.number; place = g.place }
 
 abbrev pub written_as : LentWritten → Written
 written_as g = record { number = g.number; next = g.next }
+
+-- bytes that were delivered, and the end notice
+abbrev pub with_delivered : LentDelivery → State → DeliveryAnswer
+with_delivered g s =
+    record { number = g.number; called = g.called; result = g.result; taken = g.taken; reader = g.reader; state = s }
+
+abbrev pub ended_as : LentEnd → EndAnswer
+ended_as g = record { number = g.number; reader = g.reader }

@@ -3,16 +3,21 @@
 ghost use Rattle.std.specs.Prelude.{◌≡◌};
 ghost use Rattle.vdp_state.specs.Answer.{answer_of};
 ghost use Rattle.vdp_tape.specs.Recorder.{tape_answer_of};
+ghost use Rattle.vdp_reader.specs.Deliver.{delivery_answer_of};
+ghost use Rattle.vdp_reader.specs.End.{end_answer_of};
 ghost use Rattle.vdp_script.specs.Call.{item_answer_of};
 ghost use Rattle.vdp_script.specs.Form.{judged_of};
 ghost use Rattle.vdp_script.specs.Run.{run_answer_of};
 ghost use Rattle.vdp_script.specs.Write.{written_of};
-ghost use Rattle.kuthbareen_c.specs.Answer.{with_state, with_tape_state, with_item_state, with_script_state, judged_as, written_as};
+ghost use Rattle.kuthbareen_c.specs.Answer.{with_state, with_tape_state, with_item_state, with_script_state, with_delivered, judged_as, written_as, ended_as};
 
+use vdp_reader::deliver::Delivery;
+use vdp_reader::end::Ended;
+use vdp_reader::reader::Reader;
 use vdp_script::call::ItemDone;
 use vdp_script::form::Fault;
 use vdp_script::run::ScriptAnswer;
-use vdp_state::answer::{DONE, Done, Refusal};
+use vdp_state::answer::{DONE, Done, Refusal, number_in};
 use vdp_state::state::State;
 use vdp_tape::recorder::Recorded;
 
@@ -64,6 +69,26 @@ pub struct LentItemAnswer {
 pub struct LentWritten {
     pub number: u8,
     pub next: usize,
+}
+
+// Of bytes that were delivered: the number, whether a call was made and its result, how many bytes were taken, and the
+// reader that is left.
+#[repr(C)]
+#[derive(Clone, Copy)]
+pub struct LentDelivery {
+    pub number: u8,
+    pub called: bool,
+    pub result: u32,
+    pub taken: usize,
+    pub reader: Reader,
+}
+
+// Of the end notice: the number, and the reader that is left.
+#[repr(C)]
+#[derive(Clone, Copy)]
+pub struct LentEnd {
+    pub number: u8,
+    pub reader: Reader,
 }
 
 pub(crate) fn lend(answer: Result<Done, Refusal>, s: &mut State) -> LentAnswer
@@ -141,6 +166,19 @@ pub(crate) fn lend_script(answer: ScriptAnswer, s: &mut State) -> LentScriptAnsw
     LentScriptAnswer { number, place }
 }
 
+pub(crate) fn lend_delivery(delivery: Delivery, s: &mut State) -> LentDelivery
+    ensures { with_delivered result s.new ≡ delivery_answer_of delivery }
+{
+    *s = delivery.state;
+    LentDelivery {
+        number: number_in(&delivery.answer),
+        called: delivery.call.is_some(),
+        result: delivery.call.unwrap_or(0),
+        taken: delivery.taken,
+        reader: delivery.reader,
+    }
+}
+
 impl From<Result<usize, Fault>> for LentJudged {
     ghost from_gives = { λ answer given. judged_as given ≡ judged_of answer };
 
@@ -168,6 +206,17 @@ impl From<Result<usize, Refusal>> for LentWritten {
                 number: refusal.number(),
                 next: 0,
             },
+        }
+    }
+}
+
+impl From<Ended> for LentEnd {
+    ghost from_gives = { λ ended given. ended_as given ≡ end_answer_of ended };
+
+    fn from(ended: Ended) -> LentEnd {
+        LentEnd {
+            number: number_in(&ended.answer),
+            reader: ended.reader,
         }
     }
 }

@@ -4,12 +4,12 @@ ghost use Rattle.vdp_state.specs.State.{chip};
 ghost use Rattle.vdp_reader.specs.Deliver.{deliver_outcome, deliver as delivered};
 ghost use Rattle.vdp_reader.specs.End.{end_notice};
 ghost use Rattle.vdp_reader.specs.Reader.{started as started_anew};
-ghost use Rattle.kuthbareen_c.specs.Answer.{with_delivered};
+ghost use Rattle.kuthbareen_c.specs.Answer.{ended_as, with_delivered};
 
-use crate::answer::{LentDelivery, lend_delivery};
+use crate::answer::{LentDelivery, LentEnd, lend_delivery};
 use vdp_dma::source::Memories;
 use vdp_reader::deliver::deliver;
-use vdp_reader::end::{EndAnswer, end_notice};
+use vdp_reader::end::end_notice;
 use vdp_reader::reader::{Reader, started};
 use vdp_state::state::State;
 
@@ -40,8 +40,8 @@ pub extern "C" fn kuthbareen_deliver(
 
 // Tells a reader that no more bytes come.
 #[unsafe(no_mangle)]
-pub extern "C" fn kuthbareen_end_notice(reader: Reader) -> EndAnswer
-    ensures { result ≡ end_notice reader }
+pub extern "C" fn kuthbareen_end_notice(reader: Reader) -> LentEnd
+    ensures { ended_as result ≡ end_notice reader }
 {
-    end_notice(reader)
+    end_notice(reader).into()
 }

@@ -8,7 +8,7 @@ use vdp_state::cell::word_at;
 // The first word's address in work RAM, which lies there again every 65,536 bytes.
 pub const WORK_RAM: u32 = 0xe0_0000;
 
-// The memories that the words of a transfer lie in. `run` and `unit_step` take them one by one, as C lends them.
+// The memories that the words of a transfer lie in.
 #[derive(Clone, Copy)]
 pub struct Memories<'a> {
     pub cartridge: &'a [u8],
