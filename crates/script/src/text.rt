@@ -15,6 +15,7 @@ pub(crate) struct Line {
 impl fmt::Display for Line {
     ghost output = { λ l. Some (line_text l.place l.number l.result) };
 
+    #[tactic(auto, using(crate::proofs::Texts::decimal_written, crate::proofs::Texts::hex_written))]
     fn fmt<W: fmt::Write>(&self, f: &mut fmt::Formatter<W>) -> fmt::Result {
         let place = self.place;
         let number = self.number;
