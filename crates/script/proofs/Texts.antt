@@ -1,47 +1,105 @@
--- Laws of texts that are put into a buffer:
---     one, none                 a byte that is stored at the text's end, and no byte
---     then                      a text after another is both, one after the other
---     few_digits, few_decimal   a digit has one byte at most, and a number five
---     whole                     a text that begins at byte 0 is what the buffer begins with
-use Prim.Native.Nat.{ℕ, ◌+◌, ◌<◌, ◌≤◌}
-use mathlib.Core.Path.{◌≡◌, refl, sym, ◌∙◌}
-use mathlib.Core.Bool.{Bool, true, false, cond}
-use mathlib.Core.List.{List, [], ◌∷◌, ◌++◌, append_assoc, append-nil}
-use native.Mathlib.Numerals.{add-one}
+-- Laws of the numbers of a line, as the library writes them:
+--     decimal_written     a number in decimal digits
+--     hex_written         a number in four hexadecimal digits
+use Prim.Native.Nat.{ℕ, suc, ◌+◌, ◌-◌, ◌/◌, ◌%◌, ◌^◌, ◌<◌, ◌≤◌}
+use mathlib.Core.Path.{◌≡◌, ap, ◌∙◌}
+use mathlib.Core.Bool.{true, false}
+use mathlib.Core.List.{List, [], ◌∷◌, ◌++◌, append_assoc}
 use native.Mathlib.Omega.{arith}
-use lib.Dec.{leb}
-use lib.ListN.{length, take, set, length-append}
-use lib.Seq.{take-suc-set, length-take-le}
-use Rattle.std.specs.Counts.{IsPrefixLen}
-use Rattle.script.specs.Text.{digit, decimal, Put}
+use borrow.Author.Tests.{eq-eqb, ne_eqb, ltb-true, ltb-false, leb-true, leb-false, le-leb, lt-leb}
+use lib.Dec.{leb, ltb}
+use Rattle.std.specs.Fmt.{decimal as written, digits, digits_onto, digit_glyph, char_count, padded_integral, format_spec}
+use Rattle.std.proofs.lemmas.Fmt.{decimal_by_steps}
+use Rattle.vdp_state.proofs.Bools.{by_cases}
+use Rattle.script.specs.Text.{digit, decimal, hex_digit, hex}
 
-pub one : (old : List ℕ) (at b : ℕ) → at < length old → Put old at (b ∷ []) (set old at b) (at + 1)
-one old at b h = record { ends = refl; stands = rw (add-one, take-suc-set) }
+-- ---- decimal digits
+-- a digit is the same digit of a tenth of the number
+digit_passed : (n tens unit : ℕ) → (tens ≤ n → unit ≤ n / 10) → (n < tens → n / 10 < unit) → n / tens % 10 ≡ n / 10 / unit % 10 → digit n tens ≡ digit (n / 10) unit
+digit_passed n tens unit f g d =
+    by_cases (leb tens n)
+    (λ t. simp (t, le-leb unit (n / 10) (f (leb-true tens n t))) (ap (λ (x : ℕ). (48 + x) ∷ []) d))
+    (λ t. simp (t, lt-leb unit (n / 10) (g (leb-false tens n t))))
 
-pub none : (old : List ℕ) (at : ℕ) → Put old at [] old at
-none old at = record { ends = omega arith; stands = sym (append-nil _) }
+Decimal : ℕ → List ℕ → Type 0
+Decimal n ds = n < 100000 → ds ≡ decimal n
 
-pub then : {old : List ℕ} {at : ℕ} {a : List ℕ} {mid : List ℕ} {end : ℕ} {b : List ℕ} {new : List ℕ} {next : ℕ}
-    → Put old at a mid end → Put mid end b new next → Put old at (a ++ b) new next
-then {old} {at} {a} {b = b} p q =
-    record {
-      ends = omega (arith, p.ends, q.ends, length-append a b);
-      stands = q.stands ∙ rw p.stands (append_assoc (take at old) a b);
-    }
+-- a number less than the unit has no such digit
+no_digit : (n unit : ℕ) → n < unit → digit n unit ≡ []
+no_digit n unit h = simp (lt-leb unit n h)
 
-few_shown : (b : Bool) (d : ℕ) → length (cond b (d ∷ []) []) ≤ 1
-few_shown true d = omega arith
-few_shown false d = omega arith
+one_digit : (n : ℕ) → n < 10 → Decimal n ((48 + n) ∷ [])
+unfolding decimal Decimal
+one_digit n h small =
+    rw (no_digit n 10000 (omega arith), no_digit n 1000 (omega arith), no_digit n 100 (omega arith), no_digit n 10 h) (ap (λ (x : ℕ). (48 + x) ∷ []) (let d : n ≡ n % 10 = omega arith in d))
 
-few : (n unit : ℕ) → length (digit n unit) ≤ 1
-few n unit = few_shown (leb unit n) _
+more_digits : (n : ℕ) (ds : List ℕ) → 10 ≤ n → Decimal (n / 10) ds → Decimal n (ds ++ ((48 + n % 10) ∷ []))
+unfolding decimal Decimal
+more_digits n ds h e small =
+    let tenth : ℕ = n / 10 in
+    let one : digit n 10 ≡ (48 + tenth % 10) ∷ [] = simp (le-leb 10 n h) in
+    let a : digit n 10000 ≡ digit tenth 1000 = digit_passed n 10000 1000 (λ l. omega arith) (λ l. omega arith) (omega arith) in
+    let b : digit n 1000 ≡ digit tenth 100 = digit_passed n 1000 100 (λ l. omega arith) (λ l. omega arith) (omega arith) in
+    let d : digit n 100 ≡ digit tenth 10 = digit_passed n 100 10 (λ l. omega arith) (λ l. omega arith) (omega arith) in
+    let front : ds ≡ digit tenth 1000 ++ (digit tenth 100 ++ (digit tenth 10 ++ ((48 + tenth % 10) ∷ []))) =
+    e (omega arith) ∙ ap (λ (x : List ℕ). x ++ (digit tenth 1000 ++ (digit tenth 100 ++ (digit tenth 10 ++ ((48 + tenth % 10) ∷ []))))) (no_digit tenth 10000 (omega arith)) in
+    rw (front, a, b, d, one) (simp append_assoc)
 
-pub few_digits : (n : ℕ) → (length (digit n 10000) ≤ 1) × (length (digit n 1000) ≤ 1) × (length (digit n 100) ≤ 1) × (length (digit n 10) ≤ 1)
-few_digits n = (few n 10000, few n 1000, few n 100, few n 10)
+pub decimal_written : (n : ℕ) → n < 65536 → written n ≡ decimal n
+unfolding Decimal
+decimal_written n h = decimal_by_steps Decimal one_digit more_digits n (omega arith) (omega arith)
 
-pub few_decimal : (n : ℕ) → length (decimal n) ≤ 5
-unfolding decimal
-few_decimal n = simp length-append (omega (arith, few_digits n))
+-- ---- hexadecimal digits
+last : (k n : ℕ) (behind : List ℕ) → n < 16 → digits_onto (suc k) 16 true n behind ≡ digit_glyph true (n % 16) ∷ behind
+last k n behind h = simp (eq-eqb (n / 16) 0 (omega arith))
 
-pub whole : {old text new : List ℕ} {next : ℕ} → Put old 0 text new next → next ≤ length new → IsPrefixLen next new × (take next new ≡ text)
-whole p h = ((h, sym (length-take-le _ _ h)), p.stands)
+onward : (k n : ℕ) (behind : List ℕ) → 16 ≤ n → digits_onto (suc k) 16 true n behind ≡ digits_onto k 16 true (n / 16) (digit_glyph true (n % 16) ∷ behind)
+onward k n behind h = simp (ne_eqb (n / 16) 0 (λ e. let bad : ⊥ = omega arith in bad))
+
+abbrev padded : List ℕ → List ℕ
+padded = padded_integral (format_spec 32 0 4 4 (2 ^ 64 - 1)) false []
+
+-- the digits of a number with so many
+one_hex : (n : ℕ) → n < 16 → digits 16 true n ≡ digit_glyph true (n % 16) ∷ []
+unfolding digits
+one_hex n h = last 63 n [] h
+
+two_hex : (n : ℕ) → 16 ≤ n → n < 256 → digits 16 true n ≡ digit_glyph true (n / 16 % 16) ∷ digit_glyph true (n % 16) ∷ []
+unfolding digits
+two_hex n l h = onward 63 n [] l ∙ last 62 (n / 16) _ (omega arith)
+
+three_hex : (n : ℕ) → 256 ≤ n → n < 4096 → digits 16 true n ≡ digit_glyph true (n / 16 / 16 % 16) ∷ digit_glyph true (n / 16 % 16) ∷ digit_glyph true (n % 16) ∷ []
+unfolding digits
+three_hex n l h = onward 63 n [] (omega arith) ∙ onward 62 (n / 16) _ (omega arith) ∙ last 61 (n / 16 / 16) _ (omega arith)
+
+four_hex : (n : ℕ) → 4096 ≤ n → n < 65536
+    → digits 16 true n ≡ digit_glyph true (n / 16 / 16 / 16 % 16) ∷ digit_glyph true (n / 16 / 16 % 16) ∷ digit_glyph true (n / 16 % 16) ∷ digit_glyph true (n % 16) ∷ []
+unfolding digits
+four_hex n l h = onward 63 n [] (omega arith) ∙ onward 62 (n / 16) _ (omega arith) ∙ onward 61 (n / 16 / 16) _ (omega arith) ∙ last 60 (n / 16 / 16 / 16) _ (omega arith)
+
+pub hex_written : (n : ℕ) → n < 65536 → padded (digits 16 true n) ≡ hex n
+unfolding padded_integral char_count hex_digit
+hex_written n h =
+    by_cases (ltb n 16)
+    (λ t.
+    let few : n < 16 = ltb-true n 16 t in
+    let a : n / 4096 % 16 ≡ 0 = omega arith in
+    let b : n / 256 % 16 ≡ 0 = omega arith in
+    let c : n / 16 % 16 ≡ 0 = omega arith in
+    rw (one_hex n few, a, b, c))
+    (λ t. by_cases (ltb n 256)
+    (λ u.
+    let some : n < 256 = ltb-true n 256 u in
+    let a : n / 4096 % 16 ≡ 0 = omega arith in
+    let b : n / 256 % 16 ≡ 0 = omega arith in
+    rw (two_hex n (ltb-false n 16 t) some, a, b))
+    (λ u. by_cases (ltb n 4096)
+    (λ v.
+    let most : n < 4096 = ltb-true n 4096 v in
+    let a : n / 4096 % 16 ≡ 0 = omega arith in
+    let b : n / 256 % 16 ≡ n / 16 / 16 % 16 = omega arith in
+    rw (three_hex n (ltb-false n 256 u) most, a, b))
+    (λ v.
+    let a : n / 4096 % 16 ≡ n / 16 / 16 / 16 % 16 = omega arith in
+    let b : n / 256 % 16 ≡ n / 16 / 16 % 16 = omega arith in
+    rw (four_hex n (ltb-false n 4096 v) h, a, b))))

@@ -1,6 +1,6 @@
 -- The text of a line: definition, Scripts, The program. A text is a list of character codes: 48 is the digit 0, 65 the
 -- letter A, 32 a space and 10 the end of a line.
-use Rattle.std.specs.Prelude.{ℕ, ◌+◌, ◌/◌, ◌%◌, ◌≡◌, cond, List, [], ◌∷◌, ◌++◌, leb, ltb, length, take}
+use Rattle.std.specs.Prelude.{ℕ, ◌+◌, ◌/◌, ◌%◌, cond, List, [], ◌∷◌, ◌++◌, leb, ltb}
 
 -- the decimal digit of a number that counts this unit; a number less than the unit has none
 abbrev pub digit : ℕ → ℕ → List ℕ
@@ -21,8 +21,3 @@ hex n = hex_digit (n / 4096 % 16) ∷ hex_digit (n / 256 % 16) ∷ hex_digit (n 
 -- "a line: the item's place and the number answered, [..] and the result [..] with single spaces between them"
 abbrev pub line_text : ℕ → ℕ → ℕ → List ℕ
 line_text place number result = decimal place ++ (32 ∷ (decimal number ++ (32 ∷ (hex result ++ (10 ∷ [])))))
-
--- a text that was put into a buffer at a byte: the byte after it, and what stands up to there
-pub record Put (old : List ℕ) (at : ℕ) (text new : List ℕ) (next : ℕ) : Type 0 where
-  pub ends : next ≡ at + length text
-  pub stands : take next new ≡ take at old ++ text

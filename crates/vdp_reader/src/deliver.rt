@@ -76,7 +76,7 @@ fn uncalled(reader: Reader, taken: usize, s: State) -> Delivery
     }
 }
 
-// An item that is whole: its call is made, if it names no missing register.
+// An item that is whole: its call is made, if it names no missing register. The buffers go one by one, as to `call_item`.
 fn deliver_item(
     s: State,
     vram: &mut [u8],
@@ -121,9 +121,8 @@ pub fn deliver(
     if !goes_on(reader) {
         return uncalled(reader, 0, s);
     }
-    let reached = take_bytes(reader, bytes);
-    let taken = reached.taken;
-    match reached.taking {
+    let Reached { taken, taking } = take_bytes(reader, bytes);
+    match taking {
         Taking::Kept(next) => uncalled(next, taken, s),
         Taking::Whole(item) => deliver_item(s, vram, memories, pixels, item, taken),
         Taking::Faulty => uncalled(stopped(Err(Refusal::BadScript)), taken, s),

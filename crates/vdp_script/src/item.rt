@@ -25,6 +25,7 @@ const HEAD_BYTES: usize = 3;
 const CONTENT_BYTES: usize = 2;
 
 impl Item {
+    // The number of its kind, which is a byte of a script.
     pub(crate) fn kind(self) -> u8
         ensures { result ≡ kind_of self }
     {

@@ -8,6 +8,7 @@ use crate::item::{Item, LENGTH_BYTES, item_from};
 use vdp_state::answer::Refusal;
 
 // Stores the bytes of an item that has room.
+#[tactic(auto, using(crate::proofs::Writes::part_stored, crate::proofs::Writes::item_taken))]
 fn put_item(script: &mut [u8], at: usize, item: Item)
     requires { at + length (item_bytes item) ≤ length script.old }
     ensures { script.new ≡ sets script.old at (item_bytes item) }
