@@ -89,7 +89,7 @@ pub(crate) fn cells(code: u8) -> Extent
     }
 }
 
-// The two codes, each one expression of register 16: a function of both would take the divisor and be no plainer.
+// The codes stay two functions, each one expression of register 16: one of both would take a divisor and be no plainer.
 pub(crate) fn code_across(s: State) -> u8
     ensures { result ≡ code_across s }
 {
@@ -102,8 +102,8 @@ pub(crate) fn code_down(s: State) -> u8
     s.registers[16] / 16 % 4
 }
 
-// The line whose entry of the horizontal scroll table holds. The mode is two bits of register 11 that are asked here
-// alone, so that an enum would be made of them by the same four arms.
+// The line whose entry of the horizontal scroll table holds. The mode stays a number, two bits of register 11 that are
+// asked here alone: an enum would be made of them by these same four arms, and be no plainer.
 fn scroll_line(mode: u8, line: u8) -> u8
     ensures { result ≡ scroll_line mode line }
 {
