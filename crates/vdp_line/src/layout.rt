@@ -1,5 +1,5 @@
 // The layout of a line from the registers (definition, Drawing; notes s12 to s14, s17).
-ghost use Rattle.std.specs.Prelude.{◌≡◌, ◌/◌, ◌%◌, ◌<◌, eqb};
+ghost use Rattle.std.specs.Prelude.{◌≡◌, ◌*◌, ◌/◌, ◌%◌, ◌<◌, cond, eqb};
 ghost use Rattle.vdp_line.specs.Layout.{wide as is_wide, shadow as is_shadow, height as height_of, displayed as is_displayed, backdrop as backdrop_of, base_of, base_window, base_sprites, code_across, code_down, cells as cells_of, scroll_line, scroll_place};
 ghost use Rattle.vdp_line.specs.Extent.{cells_in};
 
@@ -56,26 +56,24 @@ pub(crate) fn base_of(s: State, plane: PlaneName) -> u16
     u16::from(bits % 8) * 8192
 }
 
+// Where a table begins, from the bits of its register: the lowest stands for `unit` bytes and is taken as 0 at 320.
+fn base_by_width(s: State, bits: u8, unit: u16) -> u16
+    requires { bits * unit < 65536 }
+    ensures { result ≡ cond (is_wide s) (bits / 2 * 2) bits * unit }
+{
+    u16::from(if wide(s) { bits / 2 * 2 } else { bits }) * unit
+}
+
 pub(crate) fn base_window(s: State) -> u16
     ensures { result ≡ base_window s }
 {
-    let r = s.registers[3];
-    if wide(s) {
-        u16::from(r / 4 % 16) * 4096
-    } else {
-        u16::from(r / 2 % 32) * 2048
-    }
+    base_by_width(s, s.registers[3] / 2 % 32, 2048)
 }
 
 pub(crate) fn base_sprites(s: State) -> u16
     ensures { result ≡ base_sprites s }
 {
-    let r = s.registers[5];
-    if wide(s) {
-        u16::from(r / 2 % 64) * 1024
-    } else {
-        u16::from(r % 128) * 512
-    }
+    base_by_width(s, s.registers[5] % 128, 512)
 }
 
 // How far a plane reaches, from its code: 0, 1 or 3.
@@ -89,7 +87,7 @@ pub(crate) fn cells(code: u8) -> Extent
     }
 }
 
-// The two codes, each one expression of register 16: a function of both would take the divisor and be no plainer.
+// The codes stay two functions, each one expression of register 16: one of both would take a divisor and be no plainer.
 pub(crate) fn code_across(s: State) -> u8
     ensures { result ≡ code_across s }
 {
@@ -102,8 +100,8 @@ pub(crate) fn code_down(s: State) -> u8
     s.registers[16] / 16 % 4
 }
 
-// The line whose entry of the horizontal scroll table holds. The mode is two bits of register 11 that are asked here
-// alone, so that an enum would be made of them by the same four arms.
+// The line whose entry of the horizontal scroll table holds. The mode stays a number, two bits of register 11 that are
+// asked here alone: an enum would be made of them by these same four arms, and be no plainer.
 fn scroll_line(mode: u8, line: u8) -> u8
     ensures { result ≡ scroll_line mode line }
 {

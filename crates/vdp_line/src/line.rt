@@ -84,10 +84,10 @@ pub fn line(s: State, vram: &[u8], line: u32, pixels: &mut [u8]) -> Result<Done,
         ≡ line_of (chip s vram.now) line pixels.old }
 {
     line_check(s, vram, line, pixels)?;
-    let number = line as u8;
+    let at = line as u8;
     let columns = pixels.as_mut_array().unwrap();
     Ok(if displayed(s) {
-        shown_line(s, vram, number, columns)
+        shown_line(s, vram, at, columns)
     } else {
         blank_line(s, columns)
     })

@@ -14,6 +14,7 @@ pub(crate) struct KeptSprites {
     pub overflow: bool,
 }
 
+// Two functions, each a number of the definition that goes by the width: one of both numbers would be the `if` itself.
 fn most_visits(wide: bool) -> u8
     ensures { result ≡ most_visits wide }
 {

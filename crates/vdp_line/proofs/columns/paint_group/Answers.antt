@@ -11,8 +11,8 @@ loop-x-preserved g c =
     let a = c.args in (
       l.invariant.0,
       λ p h. let front : ℕ → ℕ → ℕ = λ y old. p (row_dot a.vram.now (row_in a.rows.b) y) (row_dot a.vram.now (row_in a.rows.a) y) (get_or a.dots.now y 0) in
-        let turn = painted_turn front (16 * c.from-from.result) a.pixels.now l.x l.pixels (omega arith) (l.invariant.1 p h) in
-        cc (turn, h _ _ c.shown.ensures),
+          let turn = painted_turn front (16 * c.from-from.result) a.pixels.now l.x l.pixels (omega arith) (l.invariant.1 p h) in
+          cc (turn, h _ _ c.shown.ensures),
     )
 
 pub returns : goal.returns

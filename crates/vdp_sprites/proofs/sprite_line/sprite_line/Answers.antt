@@ -55,7 +55,7 @@ returns c =
     let n = c.width_of-width.result in
     let used = c.pixels_used-used.result in
     let painted = c.paint_kept-collision.ensures in
-    ap₂ (λ (dots : List ℕ) (collision : Bool). let r : SpriteLine = record {dots = dots ++ drop n clear; visits = w.visits; overflow = w.overflow; collision = collision; used_up = leb n used} in r) painted.dots_after painted.value
+    ap₂ (λ (dots : List ℕ) (collision : Bool). let r : SpriteLine = record { dots = dots ++ drop n clear; visits = w.visits; overflow = w.overflow; collision = collision; used_up = leb n used } in r) painted.dots_after painted.value
     ∙ ap (laid a.vram.now a.base a.began a.line w n) c.pixels_used-used.ensures
     ∙ ap₂ (λ (v : Walk) (k : ℕ). laid a.vram.now a.base a.began a.line v k (pixels_used (kept_sprites a.vram.now a.base v))) c.walk-w.ensures c.width_of-width.ensures
     ∙ laid_is a.vram.now a.base a.began a.line a.wide
