@@ -1,3 +1,4 @@
 pub mod Command
 pub mod Digest
 pub mod Generator
+pub mod Line

@@ -1,112 +1,137 @@
-// What each command of the stream does, by its op.
-use crate::calls::{chip_call, timing_read};
+// What each command of the stream does.
+use crate::calls::{plain_call, recorded_call};
 use crate::command::Command;
-use crate::digest::digest_line;
-use crate::machine::{CARTRIDGE, Machine, SCRIPT, TAPE, VRAM, WORK_RAM, lent};
-use crate::picture::{line_turn, parts_turn, row_turn};
-use crate::reader::{deliver_turn, end_turn, start_turn};
-use crate::script::{run_turn, write_turn};
-use crate::setup::{set_buffers, set_machine, set_script};
-use crate::turn::{Turn, answered, silent};
+use crate::digest::digests;
+use crate::line::Line;
+use crate::machine::Machine;
+use crate::op::{ChipCall, Op, OtherCall, op_of};
+use crate::reader::deliver_bytes;
+use crate::setup::set_up;
+use std::io;
+use vdp_host::colour::kuthbareen_colour_parts;
+use vdp_host::row::kuthbareen_pattern_row;
+use vdp_reader::end::end_notice;
+use vdp_script::item::Item;
+use vdp_script::run::run_script;
+use vdp_script::write::write_item;
+use vdp_state::answer::{Answer, DONE};
+use vdp_tape::recorder::TapeAnswer;
 use vdp_tape::step_back::step_back;
+use vdp_timing::interrupt::level_offered;
+use vdp_timing::v_counter::v_counter;
 
-// Op 10.
-fn back_turn(m: Machine, k: Command, vram: &mut [u8], tape: &[u8]) -> Turn {
-    let r = step_back(m.state, vram, tape, m.count as usize, k.c as usize);
-    answered(m, k.op, r)
+// The number that a call answers, and its result.
+#[derive(Clone, Copy)]
+struct Answered {
+    number: u8,
+    outcome: u64,
 }
 
-// Ops 1 to 17 and 20 on what is lent of the buffers.
-fn call<'a>(
-    m: Machine,
-    k: Command,
-    vram: &mut [u8],
-    cartridge: &'a [u8],
-    ram: &'a [u8],
-    tape: &mut [u8],
-    script: &[u8],
-) -> Turn {
-    let op = k.op;
-    match op {
-        8 => line_turn(m, k, vram, tape),
-        10 => back_turn(m, k, vram, tape),
-        11 => row_turn(m, k, vram),
-        12 => parts_turn(m, k),
-        15..=16 => answered(m, op, timing_read(m, op)),
-        17 => run_turn(m, vram, cartridge, ram, script),
-        20 => deliver_turn(m, k, vram, cartridge, ram, script),
-        _ => answered(m, op, chip_call(m, k, vram, cartridge, ram, tape)),
+fn plain(m: &mut Machine, answer: Answer) -> Answered {
+    m.state = answer.state;
+    Answered { number: answer.number, outcome: u64::from(answer.result) }
+}
+
+fn taped(m: &mut Machine, answer: TapeAnswer) -> Answered {
+    m.state = answer.state;
+    m.count = answer.count;
+    Answered { number: answer.number, outcome: u64::from(answer.result) }
+}
+
+fn chip(m: &mut Machine, call: ChipCall) -> Answered {
+    if m.recorded {
+        let answer = recorded_call(m, call);
+        taped(m, answer)
+    } else {
+        let answer = plain_call(m, call);
+        plain(m, answer)
     }
 }
 
-// Ops 1 to 17 and 20: each buffer is lent at its length.
-fn lent_call<'a>(
-    m: Machine,
-    k: Command,
-    vram: &mut [u8],
-    ram: &'a [u8],
-    cartridge: &'a [u8],
-    tape: &mut [u8],
-    script: &[u8],
-) -> Turn {
-    let v = lent(m.lengths[VRAM], vram.len());
-    let r = lent(m.lengths[WORK_RAM], ram.len());
-    let c = lent(m.lengths[CARTRIDGE], cartridge.len());
-    let t = lent(m.lengths[TAPE], tape.len());
-    let n = lent(m.lengths[SCRIPT], script.len());
-    call(
-        m,
-        k,
-        &mut vram[..v],
-        &cartridge[..c],
-        &ram[..r],
-        &mut tape[..t],
-        &script[..n],
-    )
+fn undo(m: &mut Machine, steps: u32) -> Answered {
+    let answer = step_back(m.state, m.vram.lent_mut(), m.tape.lent(), m.count, steps as usize);
+    taped(m, answer)
 }
 
-// Ops 32 to 39 and 48.
-fn set_up(
-    m: Machine,
-    k: Command,
-    vram: &mut [u8],
-    ram: &mut [u8],
-    cartridge: &mut [u8],
-    tape: &mut [u8],
-) -> Turn {
-    let op = k.op;
-    match op {
-        32..=39 => {
-            set_buffers(k, vram, ram, cartridge, tape);
-            silent(set_machine(m, k))
-        }
-        48 => Turn {
-            machine: m,
-            line: digest_line(m, vram, tape),
+// There is no row 255, nor any above it.
+fn pattern_row(m: &mut Machine, name: u16, row: u32) -> Answered {
+    let row = u8::try_from(row).unwrap_or(u8::MAX);
+    let number = kuthbareen_pattern_row(m.vram.lent(), name, row, m.row.lent_mut());
+    Answered { number, outcome: 0 }
+}
+
+fn script(m: &mut Machine) -> Answered {
+    let answer = run_script(
+        m.state,
+        m.vram.lent_mut(),
+        m.cartridge.lent(),
+        m.ram.lent(),
+        m.pixels.lent_mut(),
+        m.script.lent(),
+    );
+    m.state = answer.state;
+    Answered { number: answer.number, outcome: answer.place as u64 }
+}
+
+fn write(m: &mut Machine, at: u32, item: Item) -> Answered {
+    let written = write_item(m.script.lent_mut(), at as usize, item);
+    Answered { number: written.number, outcome: written.next as u64 }
+}
+
+fn end(m: &mut Machine) -> Answered {
+    let ended = end_notice(m.reader);
+    m.reader = ended.reader;
+    Answered { number: ended.number, outcome: 0 }
+}
+
+fn other(m: &mut Machine, call: OtherCall) -> Answered {
+    match call {
+        OtherCall::StepBack(steps) => undo(m, steps),
+        OtherCall::PatternRow(name, row) => pattern_row(m, name, row),
+        OtherCall::ColourParts(w, register) => Answered {
+            number: DONE,
+            outcome: u64::from(kuthbareen_colour_parts(w, register)),
         },
-        _ => silent(m),
+        OtherCall::VCounter => plain(m, v_counter(m.state)),
+        OtherCall::LevelOffered => plain(m, level_offered(m.state)),
+        OtherCall::RunScript => script(m),
+        OtherCall::WriteItem(at, item) => write(m, at, item),
+        OtherCall::EndNotice => end(m),
     }
 }
 
-// What one command does.
-pub fn turn(
-    m: Machine,
+fn call_line(op: u8, answer: Answered, count: usize) -> Line {
+    Line::Call {
+        op,
+        number: answer.number,
+        outcome: answer.outcome,
+        count,
+    }
+}
+
+// Does a command. Each line that it prints is handed on as it comes.
+pub fn obey<F: FnMut(Line) -> io::Result<()>>(
+    m: &mut Machine,
     k: Command,
-    vram: &mut [u8],
-    ram: &mut [u8],
-    cartridge: &mut [u8],
-    tape: &mut [u8],
-    script: &mut [u8],
-) -> Turn {
-    let op = k.op;
-    match op {
-        1..=17 | 20 => lent_call(m, k, vram, ram, cartridge, tape, script),
-        18 => write_turn(m, k, script),
-        19 => start_turn(m),
-        22 => end_turn(m),
-        _ => {
-            set_script(k, script);
-            set_up(m, k, vram, ram, cartridge, tape)
+    mut print: F,
+) -> io::Result<()>
+    requires { F.IsAlwaysCallable print }
+{
+    match op_of(k) {
+        None => Ok(()),
+        Some(Op::Chip(call)) => {
+            let answer = chip(m, call);
+            print(call_line(k.op, answer, m.count))
         }
+        Some(Op::Other(call)) => {
+            let answer = other(m, call);
+            print(call_line(k.op, answer, m.count))
+        }
+        Some(Op::Deliver(from, count)) => deliver_bytes(m, from, count, print),
+        Some(Op::SetUp(step)) => {
+            set_up(m, step);
+            Ok(())
+        }
+        Some(Op::Digests) => print(digests(m)),
     }
 }
