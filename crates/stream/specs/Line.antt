@@ -10,6 +10,6 @@ numbers_text n [] = decimal n
 numbers_text n (m ∷ more) = decimal n ++ (codes " " ++ numbers_text m more)
 
 abbrev pub line_text : Line → List ℕ
-line_text (Call op number outcome count) = numbers_text op (number ∷ outcome ∷ count ∷ [])
+line_text (Call op outcome count) = numbers_text op (outcome.number ∷ outcome.result ∷ count ∷ [])
 line_text (Digests state vram pixels row tape count) =
     codes "48 " ++ numbers_text state (vram ∷ pixels ∷ row ∷ tape ∷ count ∷ [])

@@ -1,4 +1,6 @@
-// The calls on what is lent of the buffers, plain and recorded.
+// The calls on the chip, on what is lent of the buffers. The state and the count that a call gives back are used from
+// then on.
+use crate::line::Outcome;
 use crate::machine::Machine;
 use crate::op::ChipCall;
 use vdp_dma::run::run;
@@ -13,7 +15,7 @@ use vdp_tape::{calls as recorded, line as recorded_line, timing as recorded_timi
 use vdp_timing::interrupt::acknowledge;
 use vdp_timing::line_begins::line_begins;
 
-pub(crate) fn plain_call(m: &mut Machine, call: ChipCall) -> Answer {
+fn plain_call(m: &mut Machine, call: ChipCall) -> Answer {
     let s = m.state;
     match call {
         ChipCall::ControlWrite(w) => control_write(s, w),
@@ -36,7 +38,7 @@ pub(crate) fn plain_call(m: &mut Machine, call: ChipCall) -> Answer {
     }
 }
 
-pub(crate) fn recorded_call(m: &mut Machine, call: ChipCall) -> TapeAnswer {
+fn recorded_call(m: &mut Machine, call: ChipCall) -> TapeAnswer {
     let s = m.state;
     let count = m.count;
     let tape = m.tape.lent_mut();
@@ -44,7 +46,13 @@ pub(crate) fn recorded_call(m: &mut Machine, call: ChipCall) -> TapeAnswer {
         ChipCall::ControlWrite(w) => recorded::control_write(s, tape, count, w),
         ChipCall::ControlWriteByte(b) => recorded::control_write_byte(s, tape, count, b),
         ChipCall::DataWrite(w) => recorded::data_write(s, m.vram.lent_mut(), tape, count, w),
-        ChipCall::DataWriteByte(b) => recorded::data_write_byte(s, m.vram.lent_mut(), tape, count, b),
+        ChipCall::DataWriteByte(b) => recorded::data_write_byte(
+            s,
+            m.vram.lent_mut(),
+            tape,
+            count,
+            b,
+        ),
         ChipCall::DataRead => recorded::data_read(s, m.vram.lent(), tape, count),
         ChipCall::StatusRead => recorded::status_read(s, tape, count),
         ChipCall::Run(budget) => recorded::run(
@@ -62,5 +70,32 @@ pub(crate) fn recorded_call(m: &mut Machine, call: ChipCall) -> TapeAnswer {
         ChipCall::NewFrame => recorded::new_frame(s, tape, count),
         ChipCall::LineBegins => recorded_timing::line_begins(s, tape, count),
         ChipCall::Acknowledge(level) => recorded_timing::acknowledge(s, tape, count, level),
+    }
+}
+
+pub(crate) fn plain(m: &mut Machine, answer: Answer) -> Outcome {
+    m.state = answer.state;
+    Outcome {
+        number: answer.number,
+        result: u64::from(answer.result),
+    }
+}
+
+pub(crate) fn counted(m: &mut Machine, answer: TapeAnswer) -> Outcome {
+    m.state = answer.state;
+    m.count = answer.count;
+    Outcome {
+        number: answer.number,
+        result: u64::from(answer.result),
+    }
+}
+
+pub(crate) fn chip_call(m: &mut Machine, call: ChipCall) -> Outcome {
+    if m.recorded {
+        let answer = recorded_call(m, call);
+        counted(m, answer)
+    } else {
+        let answer = plain_call(m, call);
+        plain(m, answer)
     }
 }

@@ -10,6 +10,7 @@ pub mod held;
 pub mod line;
 pub mod machine;
 pub mod op;
+pub mod other;
 pub mod reader;
 pub mod session;
 pub mod setup;

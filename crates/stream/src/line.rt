@@ -4,13 +4,19 @@ ghost use Rattle.stream.specs.Line.{line_text};
 
 use std::fmt;
 
+// What a call answers: its number and its result.
+#[derive(Clone, Copy, PartialEq, Eq, Debug)]
+pub struct Outcome {
+    pub number: u8,
+    pub result: u64,
+}
+
 #[derive(Clone, Copy, PartialEq, Eq, Debug)]
 pub enum Line {
-    // the op, the number answered, the result and the count
+    // the op, what the call answers, and the count after it
     Call {
         op: u8,
-        number: u8,
-        outcome: u64,
+        outcome: Outcome,
         count: usize,
     },
     // the digests of the state and of four buffers, and the count
@@ -24,6 +30,10 @@ pub enum Line {
     },
 }
 
+pub(crate) fn call_line(op: u8, outcome: Outcome, count: usize) -> Line {
+    Line::Call { op, outcome, count }
+}
+
 impl fmt::Display for Line {
     ghost output = { λ line. Some (line_text line) };
 
@@ -31,10 +41,9 @@ impl fmt::Display for Line {
         match *self {
             Line::Call {
                 op,
-                number,
-                outcome,
+                outcome: Outcome { number, result },
                 count,
-            } => write!(f, "{op} {number} {outcome} {count}"),
+            } => write!(f, "{op} {number} {result} {count}"),
             Line::Digests {
                 state,
                 vram,

@@ -1,5 +1,5 @@
 // Bytes of the script that are delivered to the reader.
-use crate::line::Line;
+use crate::line::{Line, Outcome, call_line};
 use crate::machine::{Machine, SCRIPT_HELD};
 use std::io;
 use vdp_reader::deliver::deliver;
@@ -31,19 +31,17 @@ pub(crate) fn deliver_bytes<F: FnMut(Line) -> io::Result<()>>(
         m.reader = d.reader;
         at = at.saturating_add(d.taken).min(end);
         if !d.called {
-            return print(Line::Call {
-                op: 20,
+            let outcome = Outcome {
                 number: d.number,
-                outcome: calls as u64,
-                count: m.count,
-            });
+                result: calls as u64,
+            };
+            return print(call_line(20, outcome, m.count));
         }
-        print(Line::Call {
-            op: 21,
+        let outcome = Outcome {
             number: d.number,
-            outcome: u64::from(d.result),
-            count: m.count,
-        })?;
+            result: u64::from(d.result),
+        };
+        print(call_line(21, outcome, m.count))?;
     }
     Ok(())
 }
