@@ -2,3 +2,4 @@ pub mod Command
 pub mod Digest
 pub mod Generator
 pub mod Line
+pub mod Op

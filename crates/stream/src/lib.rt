@@ -1,16 +1,16 @@
 // The replay stream (docs/STREAM.md): commands of 8 bytes, what is held between them, and what each does and answers.
 #![tactic(auto)]
 
-pub mod calls;
+mod calls;
 pub mod command;
 pub mod digest;
-pub mod fields;
-pub mod generator;
+mod fields;
+mod generator;
 pub mod held;
 pub mod line;
 pub mod machine;
-pub mod op;
-pub mod other;
-pub mod reader;
+mod op;
+mod other;
+mod reader;
 pub mod session;
-pub mod setup;
+mod setup;

@@ -1,10 +1,13 @@
 // What a command asks for, by its op (docs/STREAM.md).
+ghost use Rattle.std.specs.Prelude.{◌≡◌, false};
+ghost use Rattle.stream.specs.Op.{named};
+
 use crate::command::Command;
 use vdp_script::item::{Found, Item, item_from};
 
 // A call on the chip: plain, or recorded while the machine says so.
 #[derive(Clone, Copy, PartialEq, Eq, Debug)]
-pub enum ChipCall {
+pub(crate) enum ChipCall {
     ControlWrite(u16),
     ControlWriteByte(u8),
     DataWrite(u16),
@@ -20,7 +23,7 @@ pub enum ChipCall {
 
 // A call that is never recorded.
 #[derive(Clone, Copy)]
-pub enum OtherCall {
+pub(crate) enum OtherCall {
     StepBack(u32),
     PatternRow(u16, u32),
     ColourParts(u16, u8),
@@ -32,7 +35,7 @@ pub enum OtherCall {
 }
 
 #[derive(Clone, Copy, PartialEq, Eq, Debug)]
-pub enum Buffer {
+pub(crate) enum Buffer {
     Vram,
     Pixels,
     WorkRam,
@@ -45,7 +48,7 @@ pub enum Buffer {
 // What is done to a buffer: a byte is set, all bytes are the generator's next ones or are the same, or it is lent at
 // another length.
 #[derive(Clone, Copy, PartialEq, Eq, Debug)]
-pub enum Change {
+pub(crate) enum Change {
     Byte(u32, u8),
     Generated(u32),
     Same(u8),
@@ -54,7 +57,7 @@ pub enum Change {
 
 // What is set; nothing is printed.
 #[derive(Clone, Copy, PartialEq, Eq, Debug)]
-pub enum SetUp {
+pub(crate) enum SetUp {
     Reader,
     Field(u8, u16, u32),
     Fresh(bool),
@@ -64,7 +67,7 @@ pub enum SetUp {
 }
 
 #[derive(Clone, Copy)]
-pub enum Op {
+pub(crate) enum Op {
     Chip(ChipCall),
     Other(OtherCall),
     Deliver(u16, u32),
@@ -93,7 +96,9 @@ fn written(k: Command) -> Option<OtherCall> {
 }
 
 // What a command asks for; one that the page does not name asks for nothing.
-pub(crate) fn op_of(k: Command) -> Option<Op> {
+pub(crate) fn op_of(k: Command) -> Option<Op>
+    ensures { named k.op ≡ false → result ≡ None }
+{
     let op = match k.op {
         1 => Op::Chip(ChipCall::ControlWrite(k.b)),
         2 => Op::Chip(ChipCall::ControlWriteByte(k.a)),

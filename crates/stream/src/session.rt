@@ -1,4 +1,7 @@
 // What each command of the stream does.
+ghost use Rattle.std.specs.Prelude.{◌≡◌, false};
+ghost use Rattle.stream.specs.Op.{named};
+
 use crate::calls::chip_call;
 use crate::command::Command;
 use crate::digest::digests;
@@ -17,6 +20,7 @@ pub fn obey<F: FnMut(Line) -> io::Result<()>>(
     mut print: F,
 ) -> io::Result<()>
     requires { F.IsAlwaysCallable print }
+    ensures unnamed { named k.op ≡ false → m.new ≡ m.old }
 {
     match op_of(k) {
         None => Ok(()),
