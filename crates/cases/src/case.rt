@@ -15,6 +15,7 @@ pub(crate) struct Case<'a> {
     pub machine: Machine,
     // where the text goes on
     pub place: Place<'a>,
+    // none where the line of the case is only `=`
     pub name: Option<&'a [u8]>,
     // where the group of items begins that is repeated, and how often it is still to be done
     pub group: Place<'a>,

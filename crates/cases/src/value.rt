@@ -4,7 +4,8 @@ use stream::digest::{bytes, state};
 use vdp_state::cell::{byte_at, number_at, word_at};
 use vdp_state::good::good;
 
-// The value of this number, one of several by its index.
+// The value of this number, one of several by its index. The numbers stand in this one match: an enum of the values
+// would list them once more.
 pub(crate) fn value(case: &Case<'_>, which: u32, index: u32) -> u64 {
     let i = index as usize;
     let m = &case.machine;

@@ -95,7 +95,7 @@ fn written(k: Command) -> Option<OtherCall> {
     Some(OtherCall::WriteItem(k.c, item))
 }
 
-// What a command asks for; one that the page does not name asks for nothing.
+// What a command asks for; one that the page does not name asks for nothing. The numbers of the ops stand here alone.
 pub(crate) fn op_of(k: Command) -> Option<Op>
     ensures { named k.op ≡ false → result ≡ None }
 {

@@ -14,7 +14,7 @@ fn set_byte(bytes: &mut [u8], place: u32, b: u8) {
     }
 }
 
-fn changed<const N: usize>(held: &mut Held<N>, change: Change) {
+fn change_held<const N: usize>(held: &mut Held<N>, change: Change) {
     match change {
         Change::Byte(place, b) => set_byte(&mut held.bytes, place, b),
         Change::Generated(seed) => scatter(&mut held.bytes, seed),
@@ -23,15 +23,15 @@ fn changed<const N: usize>(held: &mut Held<N>, change: Change) {
     }
 }
 
-fn change(m: &mut Machine, buffer: Buffer, change: Change) {
+fn change_buffer(m: &mut Machine, buffer: Buffer, change: Change) {
     match buffer {
-        Buffer::Vram => changed(&mut m.vram, change),
-        Buffer::Pixels => changed(&mut m.pixels, change),
-        Buffer::WorkRam => changed(&mut m.ram, change),
-        Buffer::Cartridge => changed(&mut m.cartridge, change),
-        Buffer::Tape => changed(&mut m.tape, change),
-        Buffer::Row => changed(&mut m.row, change),
-        Buffer::Script => changed(&mut m.script, change),
+        Buffer::Vram => change_held(&mut m.vram, change),
+        Buffer::Pixels => change_held(&mut m.pixels, change),
+        Buffer::WorkRam => change_held(&mut m.ram, change),
+        Buffer::Cartridge => change_held(&mut m.cartridge, change),
+        Buffer::Tape => change_held(&mut m.tape, change),
+        Buffer::Row => change_held(&mut m.row, change),
+        Buffer::Script => change_held(&mut m.script, change),
     }
 }
 
@@ -40,7 +40,7 @@ pub(crate) fn set_up(m: &mut Machine, step: SetUp) {
         SetUp::Reader => m.reader = started(),
         SetUp::Field(field, index, c) => set_field(&mut m.state, field, index, c),
         SetUp::Fresh(pal) => m.state = fresh(pal),
-        SetUp::Buffer(buffer, how) => change(m, buffer, how),
+        SetUp::Buffer(buffer, change) => change_buffer(m, buffer, change),
         SetUp::Count(count) => m.count = count as usize,
         SetUp::Recorded(recorded) => m.recorded = recorded,
     }
