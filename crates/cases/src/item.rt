@@ -2,6 +2,7 @@
 use crate::case::{Case, Marks, named};
 use crate::text::Place;
 use crate::value::value;
+use std::convert::Infallible;
 use std::io;
 use stream::command::Command;
 use stream::digest::{bytes, state};
@@ -60,7 +61,7 @@ fn done(case: &mut Case<'_>) {
 }
 
 // A letter and up to three numbers with dots between them: a, b and c. One number serves for all three.
-fn act(case: &mut Case<'_>) -> io::Result<()> {
+fn act(case: &mut Case<'_>) {
     let letter = case.place.byte();
     let mut place = case.place.onward(1);
     let a = place.number();
@@ -68,7 +69,7 @@ fn act(case: &mut Case<'_>) -> io::Result<()> {
     let c = place.after_dot(b);
     case.place = place;
     let Some(op) = LETTERS.iter().position(|l| *l == letter) else {
-        return Ok(());
+        return;
     };
     let command = Command {
         op: op as u8,
@@ -77,14 +78,17 @@ fn act(case: &mut Case<'_>) -> io::Result<()> {
         c,
     };
     let mut last = case.last;
-    obey(&mut case.machine, command, |line| {
-        if let Line::Call { outcome, .. } = line {
-            last = outcome;
-        }
-        Ok(())
-    })?;
+    let Ok(()) = obey(
+        &mut case.machine,
+        command,
+        |line| -> Result<(), Infallible> {
+            if let Line::Call { outcome, .. } = line {
+                last = outcome;
+            }
+            Ok(())
+        },
+    );
     case.last = last;
-    Ok(())
 }
 
 // `j`: the script is judged as the program `script` does it.
@@ -122,7 +126,7 @@ pub(crate) fn item<R: Print>(rt: &R, case: &mut Case<'_>) -> io::Result<()> {
             case.place = next;
         }
         b'#' => case.place = case.place.line_end(),
-        _ => act(case)?,
+        _ => act(case),
     }
     Ok(())
 }

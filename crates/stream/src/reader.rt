@@ -1,17 +1,16 @@
 // Bytes of the script that are delivered to the reader.
 use crate::line::{Line, Outcome, call_line};
 use crate::machine::{Machine, SCRIPT_HELD};
-use std::io;
 use vdp_reader::deliver::deliver;
 
 // Delivers so many bytes from a byte of the lent script on, as far as it has them, with a line for each call. A script
 // has fewer items than bytes, so that no call is left out.
-pub(crate) fn deliver_bytes<F: FnMut(Line) -> io::Result<()>>(
+pub(crate) fn deliver_bytes<E, F: FnMut(Line) -> Result<(), E>>(
     m: &mut Machine,
     from: u16,
     count: u32,
     mut print: F,
-) -> io::Result<()>
+) -> Result<(), E>
     requires { F.IsAlwaysCallable print }
 {
     let mut at = usize::from(from);

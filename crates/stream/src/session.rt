@@ -11,14 +11,13 @@ use crate::op::{Op, op_of};
 use crate::other::other_call;
 use crate::reader::deliver_bytes;
 use crate::setup::set_up;
-use std::io;
 
-// Does a command. Each line that it prints is handed on as it comes.
-pub fn obey<F: FnMut(Line) -> io::Result<()>>(
+// Does a command. Each line that it prints is handed on as it comes, and it fails only where that does.
+pub fn obey<E, F: FnMut(Line) -> Result<(), E>>(
     m: &mut Machine,
     k: Command,
     mut print: F,
-) -> io::Result<()>
+) -> Result<(), E>
     requires { F.IsAlwaysCallable print }
     ensures unnamed { named k.op ≡ false → m.new ≡ m.old }
 {
