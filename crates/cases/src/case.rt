@@ -1,7 +1,7 @@
 // A case: the machine that it drives, its name and what its last call answered.
 use crate::text::Place;
-use stream::line::Outcome;
 use stream::machine::{Machine, start};
+use stream::outcome::Outcome;
 
 // The digests of the state and of VRAM when they were marked.
 #[derive(Clone, Copy)]

@@ -6,7 +6,8 @@ use std::convert::Infallible;
 use std::io;
 use stream::command::Command;
 use stream::digest::{bytes, state};
-use stream::line::{Line, Outcome};
+use stream::line::Line;
+use stream::outcome::Outcome;
 use stream::session::obey;
 use vdp_script::admitted::admitted;
 
@@ -93,11 +94,7 @@ fn act(case: &mut Case<'_>) {
 
 // `j`: the script is judged as the program `script` does it.
 fn judge(case: &mut Case<'_>) {
-    let judged = admitted(case.machine.script.lent());
-    case.last = Outcome {
-        number: judged.number,
-        result: judged.place as u64,
-    };
+    case.last = Outcome::from(admitted(case.machine.script.lent()));
 }
 
 // `*`: the state and VRAM are marked, for a later case to be compared with.

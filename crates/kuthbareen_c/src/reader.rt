@@ -1,15 +1,16 @@
-// The reader over a state that is lent, for C programs.
+// The reader over a state that is lent (definition, Scripts, The reader).
 ghost use Rattle.std.specs.Prelude.{◌≡◌};
 ghost use Rattle.vdp_state.specs.State.{chip};
 ghost use Rattle.vdp_reader.specs.Deliver.{deliver_outcome, deliver as delivered};
 ghost use Rattle.vdp_reader.specs.End.{end_notice};
 ghost use Rattle.vdp_reader.specs.Reader.{started as started_anew};
-ghost use Rattle.vdp_lent.specs.Answer.{with_delivered};
+ghost use Rattle.kuthbareen_c.specs.Answer.{with_delivered};
 
-use vdp_lent::answer::LentDelivery;
-use vdp_lent::reader;
-use vdp_reader::end::EndAnswer;
-use vdp_reader::reader::Reader;
+use crate::answer::{LentDelivery, lend_delivery};
+use vdp_dma::source::Memories;
+use vdp_reader::deliver::deliver;
+use vdp_reader::end::{EndAnswer, end_notice};
+use vdp_reader::reader::{Reader, started};
 use vdp_state::state::State;
 
 // A reader that is started anew.
@@ -17,16 +18,16 @@ use vdp_state::state::State;
 pub extern "C" fn kuthbareen_start_reader() -> Reader
     ensures { result ≡ started_anew }
 {
-    reader::kuthbareen_start_reader()
+    started()
 }
 
 // Delivers bytes to a reader, which makes one call at most.
 #[unsafe(no_mangle)]
-pub extern "C" fn kuthbareen_deliver<'a>(
+pub extern "C" fn kuthbareen_deliver(
     s: &mut State,
     vram: &mut [u8],
-    cartridge: &'a [u8],
-    ram: &'a [u8],
+    cartridge: &[u8],
+    ram: &[u8],
     pixels: &mut [u8],
     reader: Reader,
     bytes: &[u8],
@@ -34,7 +35,7 @@ pub extern "C" fn kuthbareen_deliver<'a>(
     ensures { deliver_outcome (with_delivered result s.new) vram.new pixels.new
         ≡ delivered reader bytes.now cartridge.now ram.now (chip s.old vram.old) pixels.old }
 {
-    reader::kuthbareen_deliver(s, vram, cartridge, ram, pixels, reader, bytes)
+    lend_delivery(deliver(*s, vram, Memories { cartridge, ram }, pixels, reader, bytes), s)
 }
 
 // Tells a reader that no more bytes come.
@@ -42,5 +43,5 @@ pub extern "C" fn kuthbareen_deliver<'a>(
 pub extern "C" fn kuthbareen_end_notice(reader: Reader) -> EndAnswer
     ensures { result ≡ end_notice reader }
 {
-    reader::kuthbareen_end_notice(reader)
+    end_notice(reader)
 }

@@ -3,3 +3,4 @@ pub mod Digest
 pub mod Generator
 pub mod Line
 pub mod Op
+pub mod Outcome

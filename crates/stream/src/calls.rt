@@ -1,6 +1,4 @@
-// The calls on the chip, on what is lent of the buffers. The state and the count that a call gives back are used from
-// then on.
-use crate::line::Outcome;
+// The calls on the chip, on what is lent of the buffers.
 use crate::machine::Machine;
 use crate::op::ChipCall;
 use vdp_dma::run::run;
@@ -9,13 +7,13 @@ use vdp_ports::control::{control_write, control_write_byte};
 use vdp_ports::data::{data_read, data_write, data_write_byte};
 use vdp_ports::frame::new_frame;
 use vdp_ports::status::status_read;
-use vdp_state::answer::Answer;
-use vdp_tape::recorder::TapeAnswer;
+use vdp_state::answer::{Done, Refusal};
+use vdp_tape::recorder::Recorded;
 use vdp_tape::{calls as recorded, line as recorded_line, timing as recorded_timing};
 use vdp_timing::interrupt::acknowledge;
 use vdp_timing::line_begins::line_begins;
 
-fn plain_call(m: &mut Machine, call: ChipCall) -> Answer {
+fn plain_call(m: &mut Machine, call: ChipCall) -> Result<Done, Refusal> {
     let s = m.state;
     match call {
         ChipCall::ControlWrite(w) => control_write(s, w),
@@ -24,13 +22,7 @@ fn plain_call(m: &mut Machine, call: ChipCall) -> Answer {
         ChipCall::DataWriteByte(b) => data_write_byte(s, m.vram.lent_mut(), b),
         ChipCall::DataRead => data_read(s, m.vram.lent()),
         ChipCall::StatusRead => status_read(s),
-        ChipCall::Run(budget) => run(
-            s,
-            m.vram.lent_mut(),
-            m.cartridge.lent(),
-            m.ram.lent(),
-            budget,
-        ),
+        ChipCall::Run(budget) => run(s, m.vram.lent_mut(), m.memories.lent(), budget),
         ChipCall::Line(n) => line(s, m.vram.lent(), n, m.pixels.lent_mut()),
         ChipCall::NewFrame => new_frame(s),
         ChipCall::LineBegins => line_begins(s),
@@ -38,7 +30,7 @@ fn plain_call(m: &mut Machine, call: ChipCall) -> Answer {
     }
 }
 
-fn recorded_call(m: &mut Machine, call: ChipCall) -> TapeAnswer {
+fn recorded_call(m: &mut Machine, call: ChipCall) -> Result<Recorded, Refusal> {
     let s = m.state;
     let count = m.count;
     let tape = m.tape.lent_mut();
@@ -46,24 +38,14 @@ fn recorded_call(m: &mut Machine, call: ChipCall) -> TapeAnswer {
         ChipCall::ControlWrite(w) => recorded::control_write(s, tape, count, w),
         ChipCall::ControlWriteByte(b) => recorded::control_write_byte(s, tape, count, b),
         ChipCall::DataWrite(w) => recorded::data_write(s, m.vram.lent_mut(), tape, count, w),
-        ChipCall::DataWriteByte(b) => recorded::data_write_byte(
-            s,
-            m.vram.lent_mut(),
-            tape,
-            count,
-            b,
-        ),
+        ChipCall::DataWriteByte(b) => {
+            recorded::data_write_byte(s, m.vram.lent_mut(), tape, count, b)
+        }
         ChipCall::DataRead => recorded::data_read(s, m.vram.lent(), tape, count),
         ChipCall::StatusRead => recorded::status_read(s, tape, count),
-        ChipCall::Run(budget) => recorded::run(
-            s,
-            m.vram.lent_mut(),
-            m.cartridge.lent(),
-            m.ram.lent(),
-            tape,
-            count,
-            budget,
-        ),
+        ChipCall::Run(budget) => {
+            recorded::run(s, m.vram.lent_mut(), m.memories.lent(), tape, count, budget)
+        }
         ChipCall::Line(n) => {
             recorded_line::line(s, m.vram.lent(), tape, count, n, m.pixels.lent_mut())
         }
@@ -73,24 +55,22 @@ fn recorded_call(m: &mut Machine, call: ChipCall) -> TapeAnswer {
     }
 }
 
-pub(crate) fn plain(m: &mut Machine, answer: Answer) -> Outcome {
-    m.state = answer.state;
-    Outcome {
-        number: answer.number,
-        result: u64::from(answer.result),
-    }
+// The state that a call gives back is used from then on.
+pub(crate) fn plain(m: &mut Machine, answer: Result<Done, Refusal>) -> Result<u64, Refusal> {
+    let done = answer?;
+    m.state = done.state;
+    Ok(u64::from(done.result))
 }
 
-pub(crate) fn counted(m: &mut Machine, answer: TapeAnswer) -> Outcome {
-    m.state = answer.state;
-    m.count = answer.count;
-    Outcome {
-        number: answer.number,
-        result: u64::from(answer.result),
-    }
+// So is the count of a call with the tape.
+pub(crate) fn counted(m: &mut Machine, answer: Result<Recorded, Refusal>) -> Result<u64, Refusal> {
+    let done = answer?;
+    m.state = done.state;
+    m.count = done.count;
+    Ok(u64::from(done.result))
 }
 
-pub(crate) fn chip_call(m: &mut Machine, call: ChipCall) -> Outcome {
+pub(crate) fn chip_call(m: &mut Machine, call: ChipCall) -> Result<u64, Refusal> {
     if m.recorded {
         let answer = recorded_call(m, call);
         counted(m, answer)

@@ -2,7 +2,7 @@
 ghost use Rattle.std.specs.Prelude.{◌≡◌};
 ghost use Rattle.stream.specs.Command.{command_of};
 
-use vdp_state::cell::{byte_at, word_at};
+use vdp_state::cell::{get_or, word_at};
 
 pub const COMMAND_BYTES: usize = 8;
 
@@ -21,8 +21,8 @@ pub fn command_of(bytes: &[u8]) -> Command
     let upper = u32::from(word_at(bytes, 4));
     let lower = u32::from(word_at(bytes, 6));
     Command {
-        op: byte_at(bytes, 0),
-        a: byte_at(bytes, 1),
+        op: get_or(bytes, 0, 0),
+        a: get_or(bytes, 1, 0),
         b: word_at(bytes, 2),
         c: upper * 65536 + lower,
     }

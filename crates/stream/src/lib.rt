@@ -11,6 +11,7 @@ pub mod line;
 pub mod machine;
 mod op;
 mod other;
+pub mod outcome;
 mod reader;
 pub mod session;
 mod setup;

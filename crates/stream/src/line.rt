@@ -2,14 +2,8 @@
 ghost use Rattle.std.specs.Prelude.{Some};
 ghost use Rattle.stream.specs.Line.{line_text};
 
+use crate::outcome::Outcome;
 use std::fmt;
-
-// What a call answers: its number and its result.
-#[derive(Clone, Copy, PartialEq, Eq, Debug)]
-pub struct Outcome {
-    pub number: u8,
-    pub result: u64,
-}
 
 #[derive(Clone, Copy, PartialEq, Eq, Debug)]
 pub enum Line {

@@ -1,5 +1,6 @@
 // What is held between commands: the state, the buffers, the tape's count, whether calls are recorded, and the reader.
 use crate::held::Held;
+use vdp_dma::source::Memories;
 use vdp_reader::reader::{Reader, started};
 use vdp_state::fresh::fresh;
 use vdp_state::state::State;
@@ -19,13 +20,28 @@ pub const ROW_HELD: usize = 12;
 
 pub const SCRIPT_HELD: usize = 16388;
 
+// The memories that transfers read.
+#[derive(Drop)]
+pub struct HeldMemories {
+    pub cartridge: Held<CARTRIDGE_HELD>,
+    pub ram: Held<WORK_RAM_HELD>,
+}
+
+impl HeldMemories {
+    pub(crate) fn lent(&self) -> Memories<'_> {
+        Memories {
+            cartridge: self.cartridge.lent(),
+            ram: self.ram.lent(),
+        }
+    }
+}
+
 #[derive(Drop)]
 pub struct Machine {
     pub state: State,
     pub vram: Held<VRAM_HELD>,
     pub pixels: Held<PIXELS_HELD>,
-    pub ram: Held<WORK_RAM_HELD>,
-    pub cartridge: Held<CARTRIDGE_HELD>,
+    pub memories: HeldMemories,
     pub tape: Held<TAPE_HELD>,
     pub row: Held<ROW_HELD>,
     pub script: Held<SCRIPT_HELD>,
@@ -40,8 +56,10 @@ pub fn start() -> Machine {
         state: fresh(false),
         vram: Held::zero(65536),
         pixels: Held::zero(320),
-        ram: Held::zero(65536),
-        cartridge: Held::zero(131_072),
+        memories: HeldMemories {
+            cartridge: Held::zero(131_072),
+            ram: Held::zero(65536),
+        },
         tape: Held::zero(131_072),
         row: Held::zero(8),
         script: Held::zero(0),

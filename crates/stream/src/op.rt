@@ -3,7 +3,7 @@ ghost use Rattle.std.specs.Prelude.{◌≡◌, false};
 ghost use Rattle.stream.specs.Op.{named};
 
 use crate::command::Command;
-use vdp_script::item::{Found, Item, item_from};
+use vdp_script::item::{Item, item_from};
 
 // A call on the chip: plain, or recorded while the machine says so.
 #[derive(Clone, Copy, PartialEq, Eq, Debug)]
@@ -22,7 +22,7 @@ pub(crate) enum ChipCall {
 }
 
 // A call that is never recorded.
-#[derive(Clone, Copy)]
+#[derive(Clone, Copy, PartialEq, Eq, Debug)]
 pub(crate) enum OtherCall {
     StepBack(u32),
     PatternRow(u16, u32),
@@ -66,7 +66,7 @@ pub(crate) enum SetUp {
     Recorded(bool),
 }
 
-#[derive(Clone, Copy)]
+#[derive(Clone, Copy, PartialEq, Eq, Debug)]
 pub(crate) enum Op {
     Chip(ChipCall),
     Other(OtherCall),
@@ -86,13 +86,6 @@ fn buffer_of(number: u16) -> Option<Buffer> {
         6 => Some(Buffer::Script),
         _ => None,
     }
-}
-
-fn written(k: Command) -> Option<OtherCall> {
-    let Found::Whole(item) = item_from(k.a, k.b) else {
-        return None;
-    };
-    Some(OtherCall::WriteItem(k.c, item))
 }
 
 // What a command asks for; one that the page does not name asks for nothing. The numbers of the ops stand here alone.
@@ -117,7 +110,7 @@ pub(crate) fn op_of(k: Command) -> Option<Op>
         15 => Op::Other(OtherCall::VCounter),
         16 => Op::Other(OtherCall::LevelOffered),
         17 => Op::Other(OtherCall::RunScript),
-        18 => Op::Other(written(k)?),
+        18 => Op::Other(OtherCall::WriteItem(k.c, item_from(k.a, k.b)?)),
         19 => Op::SetUp(SetUp::Reader),
         20 => Op::Deliver(k.b, k.c),
         22 => Op::Other(OtherCall::EndNotice),

@@ -1,7 +1,9 @@
 // Bytes of the script that are delivered to the reader.
-use crate::line::{Line, Outcome, call_line};
+use crate::line::{Line, call_line};
 use crate::machine::{Machine, SCRIPT_HELD};
+use crate::outcome::Outcome;
 use vdp_reader::deliver::deliver;
+use vdp_state::answer::number_in;
 
 // Delivers so many bytes from a byte of the lent script on, as far as it has them, with a line for each call. A script
 // has fewer items than bytes, so that no call is left out.
@@ -20,8 +22,7 @@ pub(crate) fn deliver_bytes<E, F: FnMut(Line) -> Result<(), E>>(
         let d = deliver(
             m.state,
             m.vram.lent_mut(),
-            m.cartridge.lent(),
-            m.ram.lent(),
+            m.memories.lent(),
             m.pixels.lent_mut(),
             m.reader,
             m.script.lent().get(at..end).unwrap_or_default(),
@@ -29,18 +30,13 @@ pub(crate) fn deliver_bytes<E, F: FnMut(Line) -> Result<(), E>>(
         m.state = d.state;
         m.reader = d.reader;
         at = at.saturating_add(d.taken).min(end);
-        if !d.called {
-            let outcome = Outcome {
-                number: d.number,
-                result: calls as u64,
-            };
-            return print(call_line(20, outcome, m.count));
-        }
-        let outcome = Outcome {
-            number: d.number,
-            result: u64::from(d.result),
+        let number = number_in(&d.answer);
+        let Some(result) = d.call else {
+            let result = calls as u64;
+            return print(call_line(20, Outcome { number, result }, m.count));
         };
-        print(call_line(21, outcome, m.count))?;
+        let result = u64::from(result);
+        print(call_line(21, Outcome { number, result }, m.count))?;
     }
     Ok(())
 }

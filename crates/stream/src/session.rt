@@ -9,6 +9,7 @@ use crate::line::{Line, call_line};
 use crate::machine::Machine;
 use crate::op::{Op, op_of};
 use crate::other::other_call;
+use crate::outcome::Outcome;
 use crate::reader::deliver_bytes;
 use crate::setup::set_up;
 
@@ -24,7 +25,7 @@ pub fn obey<E, F: FnMut(Line) -> Result<(), E>>(
     match op_of(k) {
         None => Ok(()),
         Some(Op::Chip(call)) => {
-            let outcome = chip_call(m, call);
+            let outcome = Outcome::from(chip_call(m, call));
             print(call_line(k.op, outcome, m.count))
         }
         Some(Op::Other(call)) => {

@@ -27,8 +27,8 @@ fn change_buffer(m: &mut Machine, buffer: Buffer, change: Change) {
     match buffer {
         Buffer::Vram => change_held(&mut m.vram, change),
         Buffer::Pixels => change_held(&mut m.pixels, change),
-        Buffer::WorkRam => change_held(&mut m.ram, change),
-        Buffer::Cartridge => change_held(&mut m.cartridge, change),
+        Buffer::WorkRam => change_held(&mut m.memories.ram, change),
+        Buffer::Cartridge => change_held(&mut m.memories.cartridge, change),
         Buffer::Tape => change_held(&mut m.tape, change),
         Buffer::Row => change_held(&mut m.row, change),
         Buffer::Script => change_held(&mut m.script, change),

@@ -110,9 +110,11 @@ pub record Accepted (c : Chip) (cartridge ram : List ℕ) (budget : ℕ) : Type 
 
 pub accepted : (c : Chip) (cartridge ram : List ℕ) (budget : ℕ) → first (run_tests c cartridge ram budget) ≡ 0 → Accepted c cartridge ram budget
 accepted c cartridge ram budget e =
+    let is_two : 0 < 2 = omega arith in
+    let is_seven : 0 < 7 = omega arith in
     let one = cond_zero _ 1 _ (omega arith) e in
-    let two = cond_zero _ 2 _ (omega arith) one.1 in
-    let seven = cond_zero _ 7 0 (omega arith) two.1 in
+    let two = cond_zero _ 2 _ is_two one.1 in
+    let seven = cond_zero _ 7 0 is_seven two.1 in
     record { state = not-false _ (none _ false one.0).0; memory = (none _ false two.0).0; lent = (none _ false seven.0).0 }
 
 module _ (c : Chip) (cartridge ram : List ℕ) (budget : ℕ) where

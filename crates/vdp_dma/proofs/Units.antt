@@ -1,6 +1,6 @@
 -- What one unit of a fill or a copy does to the control part and VRAM, and the loops that make such units.
 use Prim.Native.Nat.{ℕ, ◌+◌, ◌-◌, ◌*◌, ◌/◌, ◌%◌, ◌<◌, ◌≤◌}
-use mathlib.Core.Path.{◌≡◌, refl, sym, ap, ap₂, ◌∙◌}
+use mathlib.Core.Path.{◌≡◌, refl, sym, ap, ap₂, subst, ◌∙◌}
 use mathlib.Core.Bool.{false, cond}
 use mathlib.Core.List.{List}
 use native.Mathlib.Omega.{arith}
@@ -18,10 +18,12 @@ use Rattle.vdp_state.specs.Cell.{put_word, stored_in, perform, made, steps}
 use Rattle.vdp_state.specs.Range.{AllBytes}
 use Rattle.vdp_state.specs.State.{Chip, chip, with_control, with_port, with_dma}
 use Rattle.vdp_state.proofs.Bools.{by_cases}
-use Rattle.vdp_state.proofs.Iterate.{iterate_start, iterate_turn, iterate_end}
+use Rattle.vdp_state.proofs.Iterate.{iterate_turn}
 use Rattle.vdp_ports.specs.Access.{access, even_place}
 use Rattle.vdp_ports.specs.Data.{advanced}
 use Rattle.vdp_ports.specs.Length.{register}
+use Rattle.std.specs.Borrow.{MutBor}
+use Rattle.vdp_dma.specs.Bytes.{MakesUnits}
 use Rattle.vdp_dma.specs.Unit.{unit_dma, units_dma, unit_control, units_control, byte_stored, writes_vram, inverted, fill_step, copy_step}
 
 -- a store of the even word with one byte replaced is a store of that byte
@@ -68,62 +70,44 @@ module _ (d : Dma) (i : ℕ) (live : i < d.remaining) where
       let same : d.remaining - (i + 1) ≡ d.remaining - i - 1 = omega arith in
       simp (more, e, lt-leb (d.remaining - i) 1 (omega arith), same))
 
-pub units_none : (k : Control) → 0 < k.dma.remaining → units_control k k.port 0 k.dma.source ≡ k
-units_none k h =
-    let same : k.dma.remaining - 0 ≡ k.dma.remaining = omega arith in
-    simp (lt-leb k.dma.remaining 0 h, same)
-
 -- the control part after one unit more
 pub units_control_next : (k : Control) (p p' : Port) (source source' i increment : ℕ) (next : ℕ → ℕ) → i < k.dma.remaining → p' ≡ advanced p increment → source' ≡ next source → units_control k p' (i + 1) source' ≡ unit_control (units_control k p i source) increment (next (units_dma k.dma i source).source)
 units_control_next k p p' source source' i increment next live pe se =
     ap₂ (λ (x : Port) (y : Dma). with_dma (with_port k x) y) pe
     (units_next k.dma i live source source' ∙ ap (unit_dma (units_dma k.dma i source)) (se ∙ ap next (sym (units_source k.dma i live source))))
 
--- ---- loops that make units of one kind
--- the units left, made from here, lead where all n of them lead from the start, whatever the rest of the state
-abbrev pub Leads : (Chip → Step) → Control → ℕ → ℕ → List ℕ → Port → ℕ → ℕ → List ℕ → Type 0
-Leads step k n increment vram₀ p source i vram =
-    (s : State) → register s 15 ≡ increment → steps step (n - i) (chip (with_control s (units_control k p i source)) vram) ≡ steps step n (chip (with_control s k) vram₀)
+-- ---- the loop that makes units of one kind
+-- the units left, made from here, lead where all n of them lead from the start
+abbrev pub Leads : (Chip → Step) → State → ℕ → List ℕ → Port → ℕ → ℕ → List ℕ → Type 0
+Leads step s n vram₀ p source i vram =
+    steps step (n - i) (chip (with_control s (units_control s.control p i source)) vram) ≡ steps step n (chip s vram₀)
 
--- a kind of unit: the source goes on to `next`, and VRAM to `put` of the port, the source and the fill byte
-abbrev pub Kind : (Chip → Step) → (ℕ → ℕ) → (Port → ℕ → ℕ → List ℕ → List ℕ) → Type 0
-Kind step next put =
-    (s : State) (k : Control) (m : List ℕ)
-    → perform (chip (with_control s k) m) (step (chip (with_control s k) m))
-    ≡ chip (with_control s (unit_control k (register s 15) (next k.dma.source))) (put k.port k.dma.source k.dma.fill m)
-
-module _ (step : Chip → Step) (k : Control) (n increment : ℕ) (vram₀ : List ℕ) where
-  pub leads_start : 0 < k.dma.remaining → Leads step k n increment vram₀ k.port k.dma.source 0 vram₀
-  leads_start h s e =
-      iterate_start (made step) n _ ∙ ap (λ (j : Control). steps step n (chip (with_control s j) vram₀)) (units_none k h)
-
-  pub leads_turn : (next : ℕ → ℕ) (put : Port → ℕ → ℕ → List ℕ → List ℕ) → Kind step next put → (p p' : Port) (source source' i : ℕ) (m m' : List ℕ) → i < n → n ≤ k.dma.remaining → p' ≡ advanced p increment → source' ≡ next source → m' ≡ put p source k.dma.fill m → Leads step k n increment vram₀ p source i m → Leads step k n increment vram₀ p' source' (i + 1) m'
-  leads_turn next put is p p' source source' i m m' h most pe se me leads s e =
-      let d = k.dma in
+module _ (step : Chip → Step) (s : State) (n : ℕ) (vram₀ : List ℕ) where
+  pub leads_turn : (post : MutBor (List ℕ) → ℕ → ℕ → ℕ → MutBor (List ℕ) → Type 0) → MakesUnits post s step → (p p' : Port) (source source' i : ℕ) (v v' : MutBor (List ℕ)) → i < n → n ≤ s.control.dma.remaining → p.code ≡ s.control.port.code → p' ≡ advanced p (register s 15) → post v p.address source source' v' → Leads step s n vram₀ p source i v.now → Leads step s n vram₀ p' source' (i + 1) v'.now
+  leads_turn post makes p p' source source' i v v' h most code pe called leads =
+      let d = s.control.dma in
       let live : i < d.remaining = omega arith in
-      let before : Chip = chip (with_control s (units_control k p i source)) m in
-      let same : source ≡ (units_dma d i source).source = sym (units_source d i live source) in
-      let control = units_control_next k p p' source source' i (register s 15) next live (pe ∙ ap (advanced p) (sym e)) se in
-      let vram : m' ≡ put p (units_dma d i source).source (units_dma d i source).fill m = me ∙ ap₂ (λ (x y : ℕ). put p x y m) same (sym (units_fill d i live source)) in
-      ap (steps step (n - (i + 1))) (ap₂ (λ (x : Control) (y : List ℕ). chip (with_control s x) y) control vram ∙ sym (is s (units_control k p i source) m))
-      ∙ sym (iterate_turn (made step) n i before h) ∙ leads s e
+      let k : Control = units_control s.control p i source in
+      let here : source ≡ k.dma.source = sym (units_source d i live source) in
+      let made_now = makes k v v' source' code (units_fill d i live source) (subst (λ (x : ℕ). post v p.address x source' v') here called) in
+      let control = units_control_next s.control p p' source source' i (register s 15) (λ x. source') live pe refl in
+      ap (steps step (n - (i + 1))) (ap (λ (x : Control). chip (with_control s x) v'.now) control ∙ sym made_now)
+      ∙ sym (iterate_turn (made step) n i (chip (with_control s k) v.now) h) ∙ leads
 
-  pub leads_end : (s : State) (p : Port) (source i : ℕ) (m : List ℕ) (k' : Control) → n ≤ i → i ≤ n → k' ≡ units_control k p n source → register s 15 ≡ increment → Leads step k n increment vram₀ p source i m → chip (with_control s k') m ≡ steps step n (chip (with_control s k) vram₀)
-  leads_end s p source i m k' low high ke e leads =
-      ap (λ (x : Control). chip (with_control s x) m) (ke ∙ ap (λ (j : ℕ). units_control k p j source) (let q : n ≡ i = omega arith in q))
-      ∙ sym (iterate_end (made step) n i (chip (with_control s (units_control k p i source)) m) low) ∙ leads s e
+-- ---- one unit, by what a call that makes it leaves: the next source, and VRAM
+module _ (s : State) (k : Control) (m m' : List ℕ) (source : ℕ) where
+  abbrev Made : (Chip → Step) → Type 0
+  Made step =
+      let c = chip (with_control s k) m in
+      perform c (step c) ≡ chip (with_control s (unit_control k (register s 15) source)) m'
 
--- the byte that a unit stores: of a fill, and of a copy
-abbrev pub fill_put : Port → ℕ → ℕ → List ℕ → List ℕ
-fill_put p source fill m = stored_in m (cond (writes_vram (access p.code)) (byte_stored m (inverted p.address) fill) Nothing)
+  abbrev leaves : ℕ → List ℕ → Chip
+  leaves j l = chip (with_control s (unit_control k (register s 15) j)) l
 
-abbrev pub copy_put : Port → ℕ → ℕ → List ℕ → List ℕ
-copy_put p source fill m = stored_in m (byte_stored m p.address (get_or m source 0))
+  pub fill_made : source ≡ k.dma.source → m' ≡ stored_in m (cond (writes_vram (access k.port.code)) (byte_stored m (inverted k.port.address) k.dma.fill) Nothing) → Made fill_step
+  unfolding perform
+  fill_made from to = by_cases (writes_vram (access k.port.code)) (λ e. simp e) (λ e. simp e) ∙ ap₂ leaves (sym from) (sym to)
 
-pub fill_kind : Kind fill_step (λ x. x) fill_put
-unfolding perform
-fill_kind s k m = by_cases (writes_vram (access k.port.code)) (λ e. simp e) (λ e. simp e)
-
-pub copy_kind : Kind copy_step (λ x. (x + 1) % 65536) copy_put
-unfolding perform
-copy_kind s k m = refl
+  pub copy_made : source ≡ (k.dma.source + 1) % 65536 → m' ≡ stored_in m (byte_stored m k.port.address (get_or m k.dma.source 0)) → Made copy_step
+  unfolding perform
+  copy_made from to = ap₂ leaves (sym from) (sym to)

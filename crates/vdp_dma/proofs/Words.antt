@@ -8,6 +8,7 @@ use borrow.Author.Tests.{eqb-false, eq-eqb, ne_eqb, le-leb, lt-leb, leb-true, le
 use lib.Dec.{eqb, leb, ltb}
 use lib.ListN.{length, get_or, take, drop, length-take, length-drop}
 use lib.Seq.{drop-cons}
+use Rattle.std.specs.Simd.{first_chunks}
 use Rattle.vdp_state.specs.declared.state.Control.{Control}
 use Rattle.vdp_state.specs.declared.state.Dma.{Dma}
 use Rattle.vdp_state.specs.declared.state.State.{State}
@@ -26,21 +27,29 @@ use Rattle.vdp_dma.specs.Unit.{unit_dma, unit_control, transfer_step, unit}
 use Rattle.vdp_dma.proofs.Remaining.{dma}
 
 -- ---- the loop over a part's words
-pub moved_turn : (l : List ℕ) (i : ℕ) (c c' : Chip) → 2 ≤ length l - i → c' ≡ perform c (transfer_step c.state (get_or l i 0 * 256 + get_or l (i + 1) 0)) → moved (drop (i + 2) l) c' ≡ moved (drop i l) c
+-- a word of a part, as one of its chunks of two bytes
+pub chunk_of_two : (l : List ℕ) (i n : ℕ) → i < n → 2 * n ≤ length l → get_or (first_chunks 2 n l) i [] ≡ get_or l (2 * i) 0 ∷ (get_or l (2 * i + 1) 0 ∷ [])
+chunk_of_two l zero zero h k = absurd (let bad : ⊥ = omega arith in bad)
+chunk_of_two [] zero (suc n) h k = absurd (let bad : ⊥ = omega arith in bad)
+chunk_of_two (x ∷ []) zero (suc n) h k = absurd (let bad : ⊥ = omega arith in bad)
+chunk_of_two (x ∷ (y ∷ l)) zero (suc n) h k = refl
+chunk_of_two l (suc i) zero h k = absurd (let bad : ⊥ = omega arith in bad)
+chunk_of_two [] (suc i) (suc n) h k = absurd (let bad : ⊥ = omega arith in bad)
+chunk_of_two (x ∷ []) (suc i) (suc n) h k = absurd (let bad : ⊥ = omega arith in bad)
+chunk_of_two (x ∷ (y ∷ l)) (suc i) (suc n) h k =
+    let p : suc (suc (2 * i)) ≡ 2 * suc i = omega arith in
+    let q : suc (suc (2 * i + 1)) ≡ 2 * suc i + 1 = omega arith in
+    chunk_of_two l i n (omega arith) (omega arith) ∙ ap₂ (λ (j k : ℕ). get_or (x ∷ (y ∷ l)) j 0 ∷ (get_or (x ∷ (y ∷ l)) k 0 ∷ [])) p q
+
+-- the words from word i on, the first of them moved
+pub moved_turn : (l : List ℕ) (i : ℕ) (c c' : Chip) → i < length l / 2 → c' ≡ perform c (transfer_step c.state (get_or l (2 * i) 0 * 256 + get_or l (2 * i + 1) 0)) → moved (drop (2 * (i + 1)) l) c' ≡ moved (drop (2 * i) l) c
 moved_turn l i c c' h e =
-    let two : drop i l ≡ get_or l i 0 ∷ (get_or l (suc i) 0 ∷ drop (suc (suc i)) l) = drop-cons l i 0 (omega arith) ∙ ap (λ (r : List ℕ). get_or l i 0 ∷ r) (drop-cons l (suc i) 0 (omega arith)) in
-    let p : i + 2 ≡ suc (suc i) = omega arith in
-    let q : i + 1 ≡ suc i = omega arith in
-    ap₂ (λ (j : ℕ) (x : Chip). moved (drop j l) x) p (e ∙ ap (λ (j : ℕ). perform c (transfer_step c.state (get_or l i 0 * 256 + get_or l j 0))) q)
+    let j : ℕ = 2 * i in
+    let two : drop j l ≡ get_or l j 0 ∷ (get_or l (suc j) 0 ∷ drop (suc (suc j)) l) = drop-cons l j 0 (omega arith) ∙ ap (λ (r : List ℕ). get_or l j 0 ∷ r) (drop-cons l (suc j) 0 (omega arith)) in
+    let p : 2 * (i + 1) ≡ suc (suc j) = omega arith in
+    let q : j + 1 ≡ suc j = omega arith in
+    ap₂ (λ (k : ℕ) (x : Chip). moved (drop k l) x) p (e ∙ ap (λ (k : ℕ). perform c (transfer_step c.state (get_or l j 0 * 256 + get_or l k 0))) q)
     ∙ sym (ap (λ (r : List ℕ). moved r c) two)
-
-moved_short : (l : List ℕ) (c : Chip) → length l < 2 → moved l c ≡ c
-moved_short [] c h = refl
-moved_short (x ∷ []) c h = refl
-moved_short (x ∷ (y ∷ l)) c h = absurd (let bad : ⊥ = omega arith in bad)
-
-pub moved_end : (l : List ℕ) (i : ℕ) (c : Chip) → length l - i < 2 → moved (drop i l) c ≡ c
-moved_end l i c h = moved_short (drop i l) c (subst (λ (n : ℕ). n < 2) (sym (length-drop i l)) h)
 
 -- ---- one word
 module _ (cartridge : List ℕ) (size : length cartridge ≤ 4194304) where
@@ -190,6 +199,17 @@ module _ (cartridge ram : List ℕ) (size : length cartridge ≤ 4194304) (ram_s
       (λ e.
       rw e (moved_part false n (dma c).source c _ refl (λ x. r)
       (part_of false (dma c).source _ n more r.even e refl (λ f. leb-true ((dma c).source + 2 * n) (length cartridge) (simp e at r.lent)))))
+
+  -- it has no word only where no more are to be moved
+  pub none_left : (n : ℕ) (c : Chip) → (0 < n → Ready cartridge (dma c) n) → length (words_next cartridge ram (dma c).source (record { 0 = n })) / 2 ≡ 0 → n ≡ 0
+  none_left zero c ready e = refl
+  none_left (suc n) c ready e =
+      let p = part_moved (suc n) c (omega arith) (ready (omega arith)) in
+      absurd (let bad : ⊥ = omega (arith, p.some, e) in bad)
+
+  pub some_left : (n : ℕ) (source : ℕ) → (length (words_next cartridge ram source (record { 0 = n })) / 2 ≡ 0 → ⊥) → 0 < n
+  some_left zero source h = absurd (h (by_cases (work_ram source) (λ e. simp e) (λ e. simp e)))
+  some_left (suc n) source h = omega arith
 
 -- ---- a word moved, by what it changes
 module _ (s : State) (k k' : Control) (colours scrolls : List ℕ) where

@@ -1,5 +1,6 @@
 pub mod Bench
 pub mod Budgets
+pub mod Bytes
 pub mod InTurn
 pub mod PortWrites
 pub mod Run

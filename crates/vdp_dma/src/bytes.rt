@@ -1,77 +1,60 @@
-// Fill and copy runs: loops that carry the control part and VRAM.
-ghost use Rattle.std.specs.Prelude.{◌≡◌, cond, ◌<◌, ◌≤◌, length, get_or};
+// Fill and copy runs: their one loop, which carries the port, the source and VRAM, and what a unit of each does.
+ghost use Rattle.std.specs.Prelude.{◌≡◌, ◌+◌, ◌%◌, cond, ◌<◌, ◌≤◌, get_or};
 ghost use Rattle.vdp_state.specs.Cell.{stored_in, steps};
-ghost use Rattle.vdp_state.specs.State.{chip, with_control};
-ghost use Rattle.vdp_dma.specs.Unit.{byte_stored, inverted as inverted_place, fill_step, copy_step};
+ghost use Rattle.vdp_state.specs.State.{Chip, chip};
+ghost use Rattle.vdp_state.specs.declared.state.Step.{Step};
+ghost use Rattle.vdp_dma.specs.Bytes.{MakesUnits};
+ghost use Rattle.vdp_dma.specs.Unit.{byte_stored, inverted as inverted_place};
 
-use crate::unit::{inverted, next_byte, units_control, writes_vram};
-use vdp_ports::access::access_of;
+use crate::unit::{inverted, next_byte, units_control};
 use vdp_ports::data::advanced;
 use vdp_ports::length::Bytes;
-use vdp_state::cell::byte_at;
-use vdp_state::state::{Control, State, Store};
+use vdp_ports::refusal::VRAM_SIZE;
+use vdp_state::cell::get_or;
+use vdp_state::state::{State, Store};
 
-// The byte of one fill unit.
-fn fill_byte(address: u16, b: u8, vram: &mut [u8], writes: bool)
-    requires { length vram.old ≡ 65536 }
+// Makes n units. A call of `unit` stores the byte of one, given its address and source, and gives the source after it.
+pub(crate) fn for_each_unit<F: Fn(&mut [u8; VRAM_SIZE], u16, u32) -> u32>(
+    s: State,
+    vram: &mut [u8; VRAM_SIZE],
+    n: Bytes,
+    unit: F,
+) -> State
+    requires callable { F.IsAlwaysCallable unit }
+    requires left { (0 < s.control.dma.remaining) × (n.0 ≤ s.control.dma.remaining) }
+    ensures { (step : Chip → Step) → MakesUnits (F.post unit) s step → chip result vram.new ≡ steps step n.0 (chip s vram.old) }
+{
+    let increment = s.registers[15];
+    let mut port = s.control.port;
+    let mut source = s.control.dma.source;
+    for _ in 0..n.0 {
+        source = unit(vram, port.address, source);
+        port = advanced(port, increment);
+    }
+    State {
+        control: units_control(s.control, port, n.0, source),
+        ..s
+    }
+}
+
+// The byte of a fill unit.
+#[tactic(auto, using(crate::proofs::Units::byte_stored_lem))]
+pub(crate) fn fill_byte(vram: &mut [u8; VRAM_SIZE], address: u16, b: u8, writes: bool)
     ensures { vram.new
         ≡ stored_in vram.old (cond writes (byte_stored vram.old (inverted_place address) b) Store.Nothing) }
 {
-    let at = inverted(address) as usize;
     if writes {
-        vram[at] = b;
+        vram[inverted(address) as usize] = b;
     }
 }
 
-// Makes n units of a fill; the control part after them. The loop carries the port alone: the rest follows from n.
-pub(crate) fn fill_units(s: State, vram: &mut [u8], n: Bytes) -> Control
-    requires { (length vram.old
-        ≡ 65536) × (0 < s.control.dma.remaining) × (n.0 ≤ s.control.dma.remaining) }
-    ensures { chip (with_control s result) vram.new ≡ steps fill_step n.0 (chip s vram.old) }
-{
-    let increment = s.registers[15];
-    let control = s.control;
-    let writes = writes_vram(access_of(control.port.code));
-    let count = n.0;
-    let b = control.dma.fill;
-    let mut port = control.port;
-    let mut i = 0;
-    while i < count {
-        fill_byte(port.address, b, vram, writes);
-        port = advanced(port, increment);
-        i += 1;
-    }
-    units_control(control, port, count, control.dma.source)
-}
-
-// The byte of one copy unit.
-fn copy_byte(address: u16, source: u32, vram: &mut [u8])
-    requires { length vram.old ≡ 65536 }
-    ensures { vram.new
+// The byte of a copy unit, and the source after it.
+#[tactic(auto, using(crate::proofs::Units::byte_stored_lem))]
+pub(crate) fn copy_unit(vram: &mut [u8; VRAM_SIZE], address: u16, source: u32) -> u32
+    ensures next { result ≡ (source + 1) % 65536 }
+    ensures stored { vram.new
         ≡ stored_in vram.old (byte_stored vram.old address (get_or vram.old source 0)) }
 {
-    let b = byte_at(vram, source as usize);
-    let at = address as usize;
-    vram[at] = b;
-}
-
-// Makes n units of a copy; the control part after them. The loop carries the port and the source.
-pub(crate) fn copy_units(s: State, vram: &mut [u8], n: Bytes) -> Control
-    requires { (length vram.old
-        ≡ 65536) × (0 < s.control.dma.remaining) × (n.0 ≤ s.control.dma.remaining) }
-    ensures { chip (with_control s result) vram.new ≡ steps copy_step n.0 (chip s vram.old) }
-{
-    let increment = s.registers[15];
-    let control = s.control;
-    let count = n.0;
-    let mut port = control.port;
-    let mut source = control.dma.source;
-    let mut i = 0;
-    while i < count {
-        copy_byte(port.address, source, vram);
-        port = advanced(port, increment);
-        source = next_byte(source);
-        i += 1;
-    }
-    units_control(control, port, count, source)
+    vram[address as usize] = get_or(vram, source as usize, 0);
+    next_byte(source)
 }

@@ -1,18 +1,20 @@
 // The run (definition, DMA): as many units as the budget and the units remaining allow.
 ghost use Rattle.std.specs.Prelude.{◌≡◌, not, ◌&&◌, ◌||◌, eqb};
-ghost use Rattle.vdp_state.specs.Answer.{first, outcome};
+ghost use Rattle.vdp_state.specs.Answer.{number_in, answer_of, first, outcome};
 ghost use Rattle.vdp_state.specs.State.{chip};
 ghost use Rattle.vdp_dma.specs.Run.{units_made, bad_memory, run_tests, ran, run as run_outcome};
 ghost use Rattle.vdp_dma.specs.Transfer.{at_hand};
 
-use crate::bytes::{copy_units, fill_units};
-use crate::source::WORK_RAM;
+use crate::bytes::{copy_unit, fill_byte, for_each_unit};
+use crate::source::{Memories, WORK_RAM};
 use crate::transfer::transfer_units;
-use crate::unit::place_of;
+use crate::unit::writes_vram;
+use vdp_ports::access::access_of;
 use vdp_ports::length::{Bytes, Words};
 use vdp_ports::refusal::VRAM_SIZE;
-use vdp_state::answer::{Answer, BAD_BUFFER, BAD_STATE, DONE, SOURCE_NOT_LENT};
+use vdp_state::answer::{Done, Refusal};
 use vdp_state::good::good;
+use vdp_state::kind::DmaKind;
 use vdp_state::state::{Dma, State};
 
 const RAM_SIZE: usize = 65536;
@@ -23,34 +25,19 @@ const MOST_CARTRIDGE: usize = 4194304;
 pub fn units_made(s: State, budget: u32) -> u32
     ensures { result ≡ units_made s budget }
 {
-    let remaining = s.control.dma.remaining;
-    if budget <= remaining {
-        budget
-    } else {
-        remaining
-    }
+    budget.min(s.control.dma.remaining)
 }
 
-// The words that a transfer moves in such a run, and the bytes that a fill or a copy writes.
-fn words_made(s: State, budget: u32) -> Words
-    ensures { result.0 ≡ units_made s budget }
+// Whether one of the memories has a wrong size.
+fn bad_memory(vram: &[u8], memories: Memories) -> bool
+    ensures { result
+        ≡ (bad_memory vram.now memories.entry.cartridge.now memories.entry.ram.now).holds }
 {
-    Words(units_made(s, budget))
-}
-
-fn bytes_made(s: State, budget: u32) -> Bytes
-    ensures { result.0 ≡ units_made s budget }
-{
-    Bytes(units_made(s, budget))
-}
-
-fn bad_memory(vram: &[u8], cartridge: &[u8], ram: &[u8]) -> bool
-    ensures { result ≡ (bad_memory vram.now cartridge.now ram.now).holds }
-{
-    !(vram.len() == VRAM_SIZE)
-        | !(ram.len() == RAM_SIZE)
-        | !(cartridge.len() <= MOST_CARTRIDGE)
-        | !(cartridge.len() % 2 == 0)
+    let Memories { cartridge, ram } = memories;
+    vram.len() != VRAM_SIZE
+        || ram.len() != RAM_SIZE
+        || cartridge.len() > MOST_CARTRIDGE
+        || cartridge.len() % 2 != 0
 }
 
 // Whether a transfer lacks some of its next n words. Even sources and a cartridge below work RAM make one test do for all.
@@ -58,72 +45,67 @@ fn lacking(d: Dma, cartridge: &[u8], n: Words) -> bool
     ensures { result
         ≡ (eqb d.kind 2 && not (eqb n.0 0 || at_hand cartridge.now d.source n.0)) }
 {
-    let source = place_of(d.source);
-    let end = source + 2 * place_of(n.0);
-    (d.kind == 2) & !((n.0 == 0) | ((WORK_RAM <= d.source) | (end <= cartridge.len())))
+    let end = d.source as usize + 2 * n.0 as usize;
+    d.is(DmaKind::Transfer) && n.0 != 0 && d.source < WORK_RAM && cartridge.len() < end
 }
 
-// The number that a run answers.
-pub fn run_number(s: State, vram: &[u8], cartridge: &[u8], ram: &[u8], budget: u32) -> u8
-    ensures { result ≡ first (run_tests (chip s vram.now) cartridge.now ram.now budget) }
+// Whether a run is refused.
+#[tactic(auto, using(crate::proofs::Accepted::lacks))]
+pub fn run_check(s: State, vram: &[u8], memories: Memories, budget: u32) -> Result<(), Refusal>
+    ensures { number_in result
+        ≡ first (run_tests (chip s vram.now) memories.entry.cartridge.now memories.entry.ram.now budget) }
 {
     if !good(s) {
-        return BAD_STATE;
+        return Err(Refusal::BadState);
     }
-    if bad_memory(vram, cartridge, ram) {
-        return BAD_BUFFER;
+    if bad_memory(vram, memories) {
+        return Err(Refusal::BadBuffer);
     }
-    if lacking(s.control.dma, cartridge, words_made(s, budget)) {
-        SOURCE_NOT_LENT
-    } else {
-        DONE
+    if lacking(s.control.dma, memories.cartridge, Words(units_made(s, budget))) {
+        return Err(Refusal::SourceNotLent);
     }
+    Ok(())
 }
 
 // Makes the units of a run that is not refused.
-fn accepted<'a>(s: State, vram: &mut [u8], cartridge: &'a [u8], ram: &'a [u8], budget: u32) -> State
-    requires { first (run_tests (chip s vram.old) cartridge.now ram.now budget) ≡ 0 }
+fn accepted(s: State, vram: &mut [u8; VRAM_SIZE], memories: Memories, budget: u32) -> State
+    requires { first (run_tests (chip s vram.old) memories.cartridge.now memories.ram.now budget)
+        ≡ 0 }
     ensures { chip result vram.new
-        ≡ ran cartridge.now ram.now (units_made s budget) (chip s vram.old) }
+        ≡ ran memories.entry.cartridge.now memories.entry.ram.now (units_made s budget) (chip s vram.old) }
 {
-    let kind = s.control.dma.kind;
-    let mut next = s;
-    if kind == 2 {
-        let n = words_made(s, budget);
-        return transfer_units(s, vram, cartridge, ram, n);
+    let n = units_made(s, budget);
+    let dma = s.control.dma;
+    if dma.is(DmaKind::Transfer) {
+        return transfer_units(s, vram, memories, Words(n));
     }
-    if kind == 3 {
-        let n = bytes_made(s, budget);
-        let control = fill_units(s, vram, n);
-        next.control = control;
-        return next;
+    if dma.is(DmaKind::Fill) {
+        let writes = writes_vram(access_of(s.control.port.code));
+        return for_each_unit(s, vram, Bytes(n), |vram, address, source| {
+            fill_byte(vram, address, dma.fill, writes);
+            source
+        });
     }
-    if kind == 4 {
-        let n = bytes_made(s, budget);
-        let control = copy_units(s, vram, n);
-        next.control = control;
-        return next;
+    if dma.is(DmaKind::Copy) {
+        return for_each_unit(s, vram, Bytes(n), copy_unit);
     }
-    next
+    s
 }
 
 // Makes DMA units, at most as many as the budget; the result is how many were made.
-pub fn run<'a>(s: State, vram: &mut [u8], cartridge: &'a [u8], ram: &'a [u8], budget: u32) -> Answer
-    ensures { outcome result vram.new
-        ≡ run_outcome (chip s vram.old) cartridge.now ram.now budget }
+pub fn run(
+    s: State,
+    vram: &mut [u8],
+    memories: Memories,
+    budget: u32,
+) -> Result<Done, Refusal>
+    ensures { outcome (answer_of s result) vram.new
+        ≡ run_outcome (chip s vram.old) memories.entry.cartridge.now memories.entry.ram.now budget }
 {
-    let number = run_number(s, vram, cartridge, ram, budget);
-    if number != DONE {
-        return Answer {
-            number,
-            result: 0,
-            state: s,
-        };
-    }
-    let state = accepted(s, vram, cartridge, ram, budget);
-    Answer {
-        number: DONE,
+    run_check(s, vram, memories, budget)?;
+    let vram = vram.as_mut_array().unwrap(); // its length is tested
+    Ok(Done {
         result: units_made(s, budget),
-        state,
-    }
+        state: accepted(s, vram, memories, budget),
+    })
 }

@@ -1,6 +1,6 @@
 // Where a transfer finds its words (definition, DMA; notes s11).
-ghost use Rattle.std.specs.Prelude.{◌≡◌, ◌*◌, take, drop};
-ghost use Rattle.vdp_dma.specs.Source.{word_from, words_next, next_source};
+ghost use Rattle.std.specs.Prelude.{◌≡◌, ◌%◌, cond};
+ghost use Rattle.vdp_dma.specs.Source.{work_ram, word_from, words_next, next_source};
 
 use vdp_ports::length::Words;
 use vdp_state::cell::word_at;
@@ -8,40 +8,42 @@ use vdp_state::cell::word_at;
 // The first word's address in work RAM, which lies there again every 65,536 bytes.
 pub const WORK_RAM: u32 = 0xe0_0000;
 
-// Up to `count` bytes from `at` on.
-fn part<'a>(memory: &'a [u8], at: usize, count: usize) -> &'a [u8]
-    ensures { result.now ≡ take count (drop at memory.now) }
-{
-    let length = memory.len();
-    if length <= at {
-        return &memory[length..];
-    }
-    if length - at <= count {
-        return &memory[at..];
-    }
-    &memory[at..at + count]
+// The memories that the words of a transfer lie in. `run` and `unit_step` take them one by one, as C lends them.
+#[derive(Clone, Copy)]
+pub struct Memories<'a> {
+    pub cartridge: &'a [u8],
+    pub ram: &'a [u8],
 }
 
-// The part of the cartridge or of work RAM that holds the words next to be moved, as many as are wanted or as lie there
-// up to its end; empty where the source is in neither.
-pub fn words_next<'a>(cartridge: &'a [u8], ram: &'a [u8], source: u32, wanted: Words) -> &'a [u8]
-    ensures { result.now ≡ words_next cartridge.now ram.now source wanted }
-{
-    let count = 2 * (wanted.0 as usize);
-    if WORK_RAM <= source {
-        return part(ram, (source % 65536) as usize, count);
+impl<'a> Memories<'a> {
+    // The memory that a source lies in, if it lies in one, and its place there.
+    fn place_of(self, source: u32) -> (&'a [u8], u32)
+        ensures memory { result.0.now ≡ cond (work_ram source) self.entry.ram.now self.entry.cartridge.now }
+        ensures place { result.1 ≡ cond (work_ram source) (source % 65536) source }
+    {
+        if WORK_RAM <= source {
+            (self.ram, source % 65536)
+        } else {
+            (self.cartridge, source)
+        }
     }
-    part(cartridge, source as usize, count)
-}
 
-// The word at a source; 0 where it lies in neither memory.
-pub fn word_from(cartridge: &[u8], ram: &[u8], source: u32) -> u16
-    ensures { result ≡ word_from cartridge.now ram.now source }
-{
-    if WORK_RAM <= source {
-        word_at(ram, source % 65536)
-    } else {
-        word_at(cartridge, source)
+    // The bytes of the words next to be moved, as many as are wanted or as lie in one memory up to its end; none where
+    // the source is in neither.
+    pub fn words_next(self, source: u32, wanted: Words) -> &'a [u8]
+        ensures { result.now ≡ words_next self.entry.cartridge.now self.entry.ram.now source wanted }
+    {
+        let (memory, place) = self.place_of(source);
+        let rest = &memory[memory.len().min(place as usize)..];
+        &rest[..rest.len().min(2 * wanted.0 as usize)]
+    }
+
+    // The word at a source; 0 where it lies in neither memory.
+    pub fn word_from(self, source: u32) -> u16
+        ensures { result ≡ word_from self.entry.cartridge.now self.entry.ram.now source }
+    {
+        let (memory, place) = self.place_of(source);
+        word_at(memory, place)
     }
 }
 
@@ -52,6 +54,6 @@ pub fn next_source(source: u32) -> u32
     if source == 0xff_fffe {
         0xff_0000
     } else {
-        (source % 0x100_0000 + 2) % 0x100_0000
+        source.wrapping_add(2) % 0x100_0000
     }
 }

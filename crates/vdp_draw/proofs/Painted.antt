@@ -4,9 +4,9 @@ use mathlib.Core.Path.{◌≡◌, refl, sym, ap, ap₂, subst, ◌∙◌}
 use mathlib.Core.Bool.{Bool, true, false, ◌||◌}
 use mathlib.Core.List.{List, [], ◌∷◌, ◌++◌, append_assoc}
 use native.Mathlib.Nat.{add_assoc, zero-add, add-zero, add-suc}
-use native.Mathlib.Numerals.{add-one}
 use native.Mathlib.Omega.{arith}
 use borrow.Author.Tests.{eqb-true, eqb-false, leb-true, leb-false, ltb-true, ltb-false}
+use Rattle.std.proofs.Math.Bool.{or_assoc, or-false}
 use lib.Dec.{eqb, leb, ltb}
 use lib.ListN.{length, get_or, set, drop, length-set, length-append}
 use lib.Seq.{get_or-set_same, get_or-set_other, drop-cons, set_at, ext_get_or}
@@ -50,11 +50,6 @@ module _ (f : ℕ → ℕ → ℕ) (from : ℕ) (l : List ℕ) where
       ap (λ (m : List ℕ). set m x (f x (get_or l x 0))) e
       ∙ ap (λ (k : ℕ). set (painted f from (x - from) l) k (f k (get_or l k 0))) (sym at)
       ∙ ap (λ (k : ℕ). painted f from k l) (sym more)
-
-  pub painted_first : (x : ℕ) (l' : List ℕ) → from ≡ 0 → l' ≡ painted f from x l → set l' x (f x (get_or l x 0)) ≡ painted f from (x + 1) l
-  painted_first x l' z e =
-      let at : x ≡ from + x = omega arith in
-      ap₂ (λ (m : List ℕ) (k : ℕ). set m k (f k (get_or l k 0))) e at ∙ ap (λ (k : ℕ). painted f from k l) (sym (add-one x))
 
   -- the columns that follow, painted on
   pub painted_join : (n m : ℕ) → painted f (from + n) m (painted f from n l) ≡ painted f from (n + m) l
@@ -107,14 +102,6 @@ painted_all f (suc n) l h =
     ∙ sym (append_assoc (tabulate f n) (f n ∷ []) (drop (suc n) l))
 
 -- ---- tests over columns
-pub or_assoc : (a b c : Bool) → ((a || b) || c) ≡ (a || (b || c))
-or_assoc true b c = refl
-or_assoc false b c = refl
-
-pub or_false : (a : Bool) → (a || false) ≡ a
-or_false true = refl
-or_false false = refl
-
 or_swap : (a b c d : Bool) → ((a || b) || (c || d)) ≡ ((a || c) || (b || d))
 or_swap true b c d = refl
 or_swap false true true d = refl
@@ -129,7 +116,7 @@ module _ (p : ℕ → Bool) where
       ap (λ (k : ℕ). any_from p from (x - from) || p k) (sym at) ∙ ap (any_from p from) (sym more)
 
   any_add : (a b : ℕ) → any_below p (a + b) ≡ (any_below p a || any_from p a b)
-  any_add a zero = ap (any_below p) (add-zero a) ∙ sym (or_false (any_below p a))
+  any_add a zero = ap (any_below p) (add-zero a) ∙ sym (or-false (any_below p a))
   any_add a (suc b) =
       ap (any_below p) (add-suc a b) ∙ ap (λ (t : Bool). t || p (a + b)) (any_add a b) ∙ or_assoc (any_below p a) (any_from p a b) (p (a + b))
 
@@ -164,7 +151,7 @@ module _ (p : ℕ → Bool) where
           (ap (any_below p) (sym whole) ∙ any_add to (n - to)
           ∙ ap₂ ◌||◌ (ap (any_below p) (sym inner) ∙ any_add from (to - from) ∙ ap (λ (t : Bool). t || any_from p from (to - from)) (none_below from (λ y a. first y (omega arith) a)))
           (none_from to (n - to) (λ y a b. last y (omega arith) a))
-          ∙ or_false (any_from p from (to - from)))
+          ∙ or-false (any_from p from (to - from)))
       by_order false e =
           let k : to < from = leb-false from to e in
           let none : to - from ≡ 0 = omega arith in

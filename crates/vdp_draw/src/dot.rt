@@ -22,10 +22,11 @@ pub fn high(dot: u8) -> bool
 fn flipped(flip: bool, n: u16, i: u16) -> u16
     ensures { result ≡ flipped_place flip n i }
 {
-    if !flip {
-        return i;
+    if flip {
+        n.saturating_sub(i).saturating_sub(1)
+    } else {
+        i
     }
-    if i < n { n - 1 - i } else { 0 }
 }
 
 // A pixel with the priority and the colours of its cell.
@@ -33,14 +34,14 @@ fn dot_of(cell: u16, pixel: u8) -> u8
     requires { pixel < 16 }
     ensures { result ≡ dot_of cell pixel }
 {
-    ((64 * (cell / 32768) + 16 * (cell / 8192 % 4)) as u8) + pixel
+    (64 * (cell / 32768) + 16 * (cell / 8192 % 4)) as u8 + pixel
 }
 
 // The name of a block's cell that is so many cells across and down: names run down columns.
 fn block_name(cell: u16, across: u16, rows: u8, down: u16) -> u16
     ensures { result ≡ block_name cell across rows down }
 {
-    (((cell % 2048) as u32 + (across as u32) * (rows as u32) + (down as u32)) % 2048) as u16
+    ((u32::from(cell % 2048) + u32::from(across) * u32::from(rows) + u32::from(down)) % 2048) as u16
 }
 
 // The dot at a row and a column, in pixels, of a block of cells.
@@ -48,8 +49,8 @@ fn block_name(cell: u16, across: u16, rows: u8, down: u16) -> u16
 pub fn block_dot(vram: &[u8], cell: u16, columns: u8, rows: u8, row: u16, column: u16) -> u8
     ensures { result ≡ block_dot vram.now cell columns rows row column }
 {
-    let across = flipped(cell / 2048 % 2 == 1, 8 * (columns as u16), column);
-    let down = flipped(cell / 4096 % 2 == 1, 8 * (rows as u16), row);
+    let across = flipped(cell / 2048 % 2 == 1, 8 * u16::from(columns), column);
+    let down = flipped(cell / 4096 % 2 == 1, 8 * u16::from(rows), row);
     let name = block_name(cell, across / 8, rows, down / 8);
     dot_of(
         cell,

@@ -2,7 +2,7 @@
 ghost use Rattle.std.specs.Prelude.{◌≡◌};
 ghost use Rattle.vdp_draw.specs.Pattern.{half as half_of, pattern_pixel};
 
-use vdp_state::cell::byte_at;
+use vdp_state::cell::get_or;
 
 // The pixel that a byte holds for a column: an even column's in the high half.
 fn half(b: u8, column: u8) -> u8
@@ -15,6 +15,6 @@ fn half(b: u8, column: u8) -> u8
 pub fn pattern_pixel(vram: &[u8], name: u16, row: u8, column: u8) -> u8
     ensures { result ≡ pattern_pixel vram.now name row column }
 {
-    let place = 32 * (name as usize) + 4 * (row as usize) + (column / 2) as usize;
-    half(byte_at(vram, place), column)
+    let place = 32 * usize::from(name) + 4 * usize::from(row) + usize::from(column / 2);
+    half(get_or(vram, place, 0), column)
 }

@@ -10,5 +10,5 @@ pub fn kuthbareen_colour_parts(w: u16, register0: u8) -> u32
     ensures { result ≡ packed (colour_parts w register0) }
 {
     let parts = colour_parts(w, register0);
-    256 * (parts.blue as u32) + 16 * (parts.green as u32) + (parts.red as u32)
+    256 * u32::from(parts.blue) + 16 * u32::from(parts.green) + u32::from(parts.red)
 }

@@ -10,15 +10,10 @@ use lib.ListN.{get_or}
 use Rattle.vdp_state.specs.State.{Chip}
 use Rattle.vdp_ports.specs.Length.{register}
 use Rattle.vdp_draw.specs.Width.{width_of}
-use Rattle.vdp_line.proofs.Bounds.{cells_range}
-use Rattle.vdp_line.specs.declared.plane.Row.{Row}
-use Rattle.vdp_line.specs.declared.view.View.{View}
-use Rattle.vdp_line.specs.Intensity.{pixel}
-use Rattle.vdp_line.specs.Layer.{horizontal, row_a, row_b}
-use Rattle.vdp_line.specs.Layout.{bit, wide, shadow, backdrop, code_across, code_down}
-use Rattle.vdp_line.specs.Plane.{plane_a, plane_b, window, window_columns, row_of, row_dot, side}
-use Rattle.vdp_line.specs.Line.{mixed}
-use Rattle.vdp_line.specs.View.{view_of, scroll_word, row_a_at, row_b_at}
+use Rattle.vdp_line.specs.Layer.{horizontal, row_a, row_b, dot_a, dot_b}
+use Rattle.vdp_line.specs.Layout.{bit}
+use Rattle.vdp_line.specs.Plane.{Row, plane_a, plane_b, window, row_of, row_dot, side}
+use Rattle.vdp_line.specs.View.{View, view_of, scroll_word, row_a_at, row_b_at}
 
 module _ (c : Chip) (line g x : ℕ) (first : 16 * g ≤ x) (last : x < 16 * g + 16) where
   group : g ≡ x / 16
@@ -42,54 +37,16 @@ module _ (c : Chip) (line g x : ℕ) (first : 16 * g ≤ x) (last : x < 16 * g +
       ap₂ (λ (t : Bool) (k : ℕ). cond (side (bit s 18 7) (ltb (line / 8) (register s 18 % 32)) || side (bit s 17 7) t) (row_of (window s) 0 0 line) (row_of (plane_a s) (horizontal c line 0) (get_or s.vsram (scroll_word (bit s 11 2) 0 k) 0) line))
       (edge_here (register s 17 % 32)) group
 
--- a row has as many cells as its plane
-pub row_a_columns : (v : View) (vsram : List ℕ) (g line : ℕ) → 0 < v.a.plane.columns → 0 < v.window.columns → 0 < (row_a_at v vsram g line).columns
-row_a_columns v vsram g line p q = by_window (v.whole || side v.beyond (ltb g v.edge)) refl
-  where
-    by_window : (t : Bool) → (v.whole || side v.beyond (ltb g v.edge)) ≡ t → 0 < (row_a_at v vsram g line).columns
-    by_window true e = simp e q
-    by_window false e = simp e p
-
--- what the rows of a view ask for
-pub record Sized (v : View) : Type 0 where
-  pub rows_a : 0 < v.a.plane.rows
-  pub columns_a : 0 < v.a.plane.columns
-  pub h_a : v.a.h ≤ 1024
-  pub rows_b : 0 < v.b.plane.rows
-  pub columns_b : 0 < v.b.plane.columns
-  pub h_b : v.b.h ≤ 1024
-  pub rows_window : 0 < v.window.rows
-  pub columns_window : 0 < v.window.columns
-
-pub sized : (c : Chip) (line : ℕ) → Sized (view_of c line)
-sized c line =
-    let rows = (cells_range (code_down c.state)).0 in
-    let columns = (cells_range (code_across c.state)).0 in
-    record {
-      rows_a = rows;
-      columns_a = columns;
-      h_a = omega arith;
-      rows_b = rows;
-      columns_b = columns;
-      h_b = omega arith;
-      rows_window = omega arith;
-      columns_window = by_width (wide c.state) refl;
-    }
-  where
-    by_width : (t : Bool) → wide c.state ≡ t → 0 < window_columns c.state
-    by_width true e = simp e (omega arith)
-    by_width false e = simp e (omega arith)
-
 -- a line is a number of whole groups
 pub whole_groups : (wide : Bool) → (16 * (width_of wide / 16) ≡ width_of wide) × (width_of wide / 16 ≤ 20)
 whole_groups true = (refl, omega arith)
 whole_groups false = (refl, omega arith)
 
 -- the pixel byte of a column, by its group
-abbrev pub group_pixel : View → List ℕ → List ℕ → ℕ → List ℕ → Bool → ℕ → ℕ → ℕ → ℕ
-group_pixel v vsram vram line dots shaded back g y = pixel shaded back (row_dot vram (row_b_at v vsram g line) y) (row_dot vram (row_a_at v vsram g line) y) (get_or dots y 0)
+abbrev pub group_pixel : (ℕ → ℕ → ℕ → ℕ) → View → List ℕ → List ℕ → ℕ → List ℕ → ℕ → ℕ → ℕ
+group_pixel p v vsram vram line dots g y = p (row_dot vram (row_b_at v vsram g line) y) (row_dot vram (row_a_at v vsram g line) y) (get_or dots y 0)
 
-pub group_pixel_is : (c : Chip) (line : ℕ) (dots : List ℕ) (y : ℕ) → group_pixel (view_of c line) c.state.vsram c.vram line dots (shadow c.state) (backdrop c.state) (y / 16) y ≡ mixed c line dots y
-group_pixel_is c line dots y =
-    ap₂ (λ (b a : Row). pixel (shadow c.state) (backdrop c.state) (row_dot c.vram b y) (row_dot c.vram a y) (get_or dots y 0))
+pub group_pixel_is : (p : ℕ → ℕ → ℕ → ℕ) (c : Chip) (line : ℕ) (dots : List ℕ) (y : ℕ) → group_pixel p (view_of c line) c.state.vsram c.vram line dots (y / 16) y ≡ p (dot_b c line y) (dot_a c line y) (get_or dots y 0)
+group_pixel_is p c line dots y =
+    ap₂ (λ (b a : Row). p (row_dot c.vram b y) (row_dot c.vram a y) (get_or dots y 0))
     (row_b_here c line (y / 16) y (omega arith) (omega arith)) (row_a_here c line (y / 16) y (omega arith) (omega arith))

@@ -13,16 +13,13 @@ use Rattle.vdp_draw.proofs.Inside.{pattern_inside, word_same, block_same}
 use Rattle.vdp_sprites.specs.Sprite.{sprite_place}
 use Rattle.vdp_sprites.specs.Walk.{most_visits}
 use Rattle.vdp_sprites.proofs.Inside.{sprites_same}
-use Rattle.vdp_line.specs.declared.plane.Plane.{Plane}
-use Rattle.vdp_line.specs.declared.plane.Row.{Row}
 use Rattle.vdp_line.specs.Inside.{ReadsInside, TablesInside, NothingPastEnd}
 use Rattle.vdp_line.specs.Layer.{horizontal, row_a, row_b, dot_a, dot_b}
-use Rattle.vdp_line.specs.Layout.{wide, height, base_sprites, scroll_place, vertical}
+use Rattle.vdp_line.specs.Layout.{wide, height, base_sprites, code_across, code_down, scroll_place, vertical}
 use Rattle.vdp_line.specs.Line.{plane_cells, most_cells, line_made}
-use Rattle.vdp_line.specs.Plane.{plane_a, plane_b, window, row_of, across, cell_place, row_dot, in_window}
+use Rattle.vdp_line.specs.Plane.{Plane, Row, plane_a, plane_b, window, row_of, across, cell_place, row_dot, in_window}
 use Rattle.vdp_line.proofs.Accepted.{accepted}
-use Rattle.vdp_line.proofs.Bounds.{pixel_small, scroll_line_small, height_small}
-use Rattle.vdp_line.proofs.Groups.{sized}
+use Rattle.vdp_line.proofs.Bounds.{some_cells, some_window, pixel_small, scroll_line_small, height_small}
 
 -- ---- tables of cells
 -- a cell that is so many across and down comes before the end of its table
@@ -52,13 +49,14 @@ sprite_inside s i = by_cases (wide s) (λ e. simp e (λ h. omega arith)) (λ e. 
 reads_inside : (c : Chip) (line : ℕ) → line < height c.state → plane_cells c.state ≤ most_cells → ReadsInside c line
 reads_inside c line tall few =
     let s = c.state in
-    let some = sized c line in
+    let columns = some_cells (code_across s) in
+    let rows = some_cells (code_down s) in
     record {
       cell_a =
           λ x. by_cond (λ r. Inside (cell_place r x) 2) (in_window s line x) _ _
-          (λ e. row_inside (window s) some.columns_window some.rows_window (window_ends s) 0 0 line x)
-          (λ e. row_inside (plane_a s) some.columns_a some.rows_a (omega arith) (horizontal c line 0) (vertical s 0 x) line x);
-      cell_b = λ x. row_inside (plane_b s) some.columns_b some.rows_b (omega arith) (horizontal c line 1) (vertical s 1 x) line x;
+          (λ e. row_inside (window s) (some_window s) (omega arith) (window_ends s) 0 0 line x)
+          (λ e. row_inside (plane_a s) columns rows (omega arith) (horizontal c line 0) (vertical s 0 x) line x);
+      cell_b = λ x. row_inside (plane_b s) columns rows (omega arith) (horizontal c line 1) (vertical s 1 x) line x;
       scroll = omega (arith, scroll_line_small (register s 11 % 4) line, height_small s);
       sprite = sprite_inside s;
       pattern = pattern_inside;

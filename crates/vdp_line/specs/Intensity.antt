@@ -2,6 +2,8 @@
 -- index, 0 to 63, plus an intensity".
 use Rattle.std.specs.Prelude.{ℕ, ◌+◌, ◌*◌, ◌/◌, ◌%◌, ◌<◌, ◌≡◌, Bool, cond, not, ◌&&◌, ◌||◌, eqb}
 use Rattle.vdp_draw.specs.Dot.{solid, high}
+use Rattle.vdp_line.specs.declared.intensity.Intensity.{Intensity}
+use Rattle.vdp_line.specs.declared.intensity.Intensity.TheVariants.{Normal, Half, Double}
 use Rattle.vdp_line.specs.Mix.{index, in_front, mix}
 
 -- "0 for normal, 64 for half, 128 for double"
@@ -13,6 +15,11 @@ half = 64
 
 abbrev pub double : ℕ
 double = 128
+
+abbrev pub intensity_in : Intensity → ℕ
+intensity_in Normal = normal
+intensity_in Half = half
+intensity_in Double = double
 
 -- "A sprites' dot with the colour index 3Eh or 3Fh is an operator."
 abbrev pub darkens : ℕ → Bool

@@ -2,9 +2,8 @@
 use Rattle.std.specs.Prelude.{ℕ, ◌+◌, ◌*◌, ◌%◌, cond}
 use Rattle.vdp_state.specs.Cell.{word_at}
 use Rattle.vdp_state.specs.State.{Chip}
-use Rattle.vdp_line.specs.declared.plane.Row.{Row}
 use Rattle.vdp_line.specs.Layout.{scroll_place, vertical}
-use Rattle.vdp_line.specs.Plane.{plane_a, plane_b, window, row_of, row_dot, in_window}
+use Rattle.vdp_line.specs.Plane.{Row, plane_a, plane_b, window, row_of, row_dot, in_window}
 
 -- h of plane 0 (A) or 1 (B): "an entry of 4 bytes for each line: the word of plane A, then the word of plane B. The low
 -- 10 bits of the word are the scroll h."

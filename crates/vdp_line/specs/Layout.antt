@@ -2,6 +2,8 @@
 use Rattle.std.specs.Prelude.{ℕ, ◌+◌, ◌-◌, ◌*◌, ◌/◌, ◌%◌, ◌^◌, Bool, cond, eqb, get_or}
 use Rattle.vdp_state.specs.declared.state.State.{State}
 use Rattle.vdp_ports.specs.Length.{register}
+use Rattle.vdp_line.specs.declared.extent.PlaneName.{PlaneName}
+use Rattle.vdp_line.specs.declared.extent.PlaneName.TheVariants.{A, B}
 
 -- bit n of a register
 abbrev pub bit : State → ℕ → ℕ → Bool
@@ -33,6 +35,10 @@ base_a s = register s 2 / 8 % 8 * 8192
 -- plane B: "register 4 bits 2-0 are A15-A13"
 abbrev pub base_b : State → ℕ
 base_b s = register s 4 % 8 * 8192
+
+abbrev pub base_of : State → PlaneName → ℕ
+base_of s A = base_a s
+base_of s B = base_b s
 
 -- window: "register 3 bits 5-1 are A15-A11, with A11 taken as 0 at 320"
 abbrev pub base_window : State → ℕ

@@ -1,4 +1,6 @@
 pub mod Bench
+pub mod Columns
+pub mod Extent
 pub mod Inside
 pub mod Intensity
 pub mod Layer

@@ -1,7 +1,7 @@
 -- A line: definition, Drawing and Numbers a call may answer.
 use Rattle.std.specs.Prelude.{ℕ, ◌*◌, ◌≡◌, false, cond, not, ◌||◌, List, [], ◌∷◌, ◌++◌, eqb, leb, ltb, length, get_or, drop}
 use Rattle.std.specs.Bool.{beq}
-use Rattle.vdp_state.specs.declared.answer.Answer.{Answer}
+use Rattle.vdp_state.specs.Answer.{Answer}
 use Rattle.vdp_state.specs.declared.state.Control.{Control}
 use Rattle.vdp_state.specs.declared.state.State.{State}
 use Rattle.vdp_state.specs.declared.state.Step.{Step}

@@ -2,13 +2,29 @@
 use Rattle.std.specs.Prelude.{ℕ, ◌+◌, ◌-◌, ◌*◌, ◌/◌, ◌%◌, Bool, cond, not, ◌||◌, List, ltb}
 use Rattle.vdp_state.specs.Cell.{word_at}
 use Rattle.vdp_state.specs.declared.state.State.{State}
+use Rattle.vdp_line.specs.declared.extent.PlaneName.{PlaneName}
+use Rattle.vdp_line.specs.declared.extent.PlaneName.TheVariants.{A, B}
+use Rattle.vdp_line.specs.declared.plane.Plane.{Plane as PlaneHeld}
+use Rattle.vdp_line.specs.declared.plane.Row.{Row as RowHeld}
 use Rattle.vdp_ports.specs.Length.{register}
 use Rattle.vdp_draw.specs.Dot.{block_dot}
-use Rattle.vdp_line.specs.declared.plane.Plane.{Plane}
-use Rattle.vdp_line.specs.declared.plane.Row.{Row}
+use Rattle.vdp_line.specs.Extent.{cells_in}
 use Rattle.vdp_line.specs.Layout.{bit, wide, base_a, base_b, base_window, code_across, code_down, cells}
 
--- a table of cells, so many across and down
+-- a table of cells: where it lies, and how many it has across and down
+pub record Plane : Type 0 where
+  pub base : ℕ
+  pub columns : ℕ
+  pub rows : ℕ
+
+-- the row of a plane's cells that a line crosses, what its columns are moved by, and the line within the row
+pub record Row : Type 0 where
+  pub base : ℕ
+  pub row : ℕ
+  pub columns : ℕ
+  pub shift : ℕ
+  pub line : ℕ
+
 abbrev pub plane : ℕ → ℕ → ℕ → Plane
 plane base columns rows = record { base = base; columns = columns; rows = rows }
 
@@ -17,6 +33,10 @@ plane_a s = plane (base_a s) (cells (code_across s)) (cells (code_down s))
 
 abbrev pub plane_b : State → Plane
 plane_b s = plane (base_b s) (cells (code_across s)) (cells (code_down s))
+
+abbrev pub plane_of : State → PlaneName → Plane
+plane_of s A = plane_a s
+plane_of s B = plane_b s
 
 -- the window is a table of its own, "64 cells wide at 320 and 32 at 256", unscrolled; its 32 rows hold every line
 abbrev pub window_columns : State → ℕ
@@ -57,3 +77,10 @@ side other below = cond other (not below) below
 abbrev pub in_window : State → ℕ → ℕ → Bool
 in_window s line x =
     side (bit s 18 7) (ltb (line / 8) (register s 18 % 32)) || side (bit s 17 7) (ltb x (16 * (register s 17 % 32)))
+
+-- what the code's structs hold
+abbrev pub plane_in : PlaneHeld → Plane
+plane_in p = plane p.base (cells_in p.columns) (cells_in p.rows)
+
+abbrev pub row_in : RowHeld → Row
+row_in r = record { base = r.base; row = r.row; columns = cells_in r.columns; shift = r.shift; line = r.line }

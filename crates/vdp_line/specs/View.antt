@@ -3,12 +3,27 @@
 use Rattle.std.specs.Prelude.{ℕ, ◌+◌, ◌*◌, ◌/◌, ◌%◌, Bool, cond, ◌||◌, List, ltb, get_or}
 use Rattle.vdp_state.specs.State.{Chip}
 use Rattle.vdp_ports.specs.Length.{register}
-use Rattle.vdp_line.specs.declared.plane.Row.{Row}
-use Rattle.vdp_line.specs.declared.view.Scrolled.{Scrolled}
-use Rattle.vdp_line.specs.declared.view.View.{View}
+use Rattle.vdp_line.specs.declared.view.Scrolled.{Scrolled as ScrolledHeld}
+use Rattle.vdp_line.specs.declared.view.View.{View as ViewHeld}
 use Rattle.vdp_line.specs.Layer.{horizontal}
 use Rattle.vdp_line.specs.Layout.{bit}
-use Rattle.vdp_line.specs.Plane.{plane_a, plane_b, window, row_of, side}
+use Rattle.vdp_line.specs.Plane.{Plane, Row, plane_a, plane_b, window, row_of, side, plane_in}
+
+-- a plane and its horizontal scroll
+pub record Scrolled : Type 0 where
+  pub plane : Plane
+  pub h : ℕ
+
+-- the planes and the window; whether the vertical scroll goes by 16 columns; whether the window has the whole line,
+-- else whether it lies right of its edge, which is counted in 16 columns
+pub record View : Type 0 where
+  pub a : Scrolled
+  pub b : Scrolled
+  pub window : Plane
+  pub stepped : Bool
+  pub whole : Bool
+  pub beyond : Bool
+  pub edge : ℕ
 
 abbrev pub view_of : Chip → ℕ → View
 view_of c line =
@@ -38,3 +53,19 @@ row_a_at v vsram c line =
 
 abbrev pub row_b_at : View → List ℕ → ℕ → ℕ → Row
 row_b_at v vsram c line = scrolled_row v.b v.stepped 1 vsram c line
+
+-- what the code's structs hold
+abbrev pub scrolled_in : ScrolledHeld → Scrolled
+scrolled_in p = record { plane = plane_in p.plane; h = p.h }
+
+abbrev pub view_in : ViewHeld → View
+view_in v =
+    record {
+      a = scrolled_in v.a;
+      b = scrolled_in v.b;
+      window = plane_in v.window;
+      stepped = v.stepped;
+      whole = v.whole;
+      beyond = v.beyond;
+      edge = v.edge;
+    }

@@ -1,83 +1,100 @@
 // The columns of a line, 16 at a time: neither the vertical scroll nor the window's edge changes within them.
-ghost use Rattle.std.specs.Prelude.{◌≡◌, ◌-◌, ◌<◌, ◌≤◌, length, get_or};
+ghost use Rattle.std.specs.Prelude.{◌≡◌, ◌*◌, ◌<◌, ℕ, get_or};
 ghost use Rattle.vdp_state.specs.State.{chip};
 ghost use Rattle.vdp_draw.specs.Painted.{painted};
 ghost use Rattle.vdp_draw.specs.Width.{width_of};
-ghost use Rattle.vdp_line.specs.Intensity.{pixel as pixel_of};
+ghost use Rattle.vdp_line.specs.Columns.{Shows};
+ghost use Rattle.vdp_line.specs.Layer.{dot_a, dot_b};
 ghost use Rattle.vdp_line.specs.Layout.{wide as is_wide};
 ghost use Rattle.vdp_line.specs.Line.{mixed};
-ghost use Rattle.vdp_line.specs.Plane.{row_dot};
+ghost use Rattle.vdp_line.specs.Plane.{row_dot, row_in};
 
-use crate::intensity::pixel;
+use crate::intensity::shaded;
 use crate::layout::{backdrop, shadow, wide};
+use crate::mix::{Dots, mix};
 use crate::plane::{Row, row_dot};
 use crate::view::{row_a, row_b, view_of};
 use vdp_draw::width::width_of;
-use vdp_state::cell::byte_at;
 use vdp_state::state::State;
 
-// Writes the columns of a group, where the planes show these rows.
-fn mix_columns(
-    vram: &[u8],
-    shadow: bool,
-    back: u8,
+// The rows that the planes show on 16 columns.
+#[derive(Clone, Copy)]
+struct Rows {
     b: Row,
     a: Row,
-    dots: &[u8],
-    from: usize,
-    end: usize,
-    pixels: &mut [u8],
+}
+
+// Writes the 16 columns from 16 c on, where the planes show these rows.
+fn paint_group<F: Fn(Dots) -> u8>(
+    vram: &[u8],
+    rows: Rows,
+    dots: &[u8; 320],
+    c: u8,
+    pixels: &mut [u8; 320],
+    shown: F,
 )
-    requires { (back < 64) × (0 < b.columns) × (0 < a.columns) × (from ≤ end)
-        × (end ≤ length pixels.old) × (length pixels.old ≤ 320) }
-    ensures { pixels.new
-        ≡ painted (λ x _. pixel_of shadow back (row_dot vram.now b x) (row_dot vram.now a x) (get_or dots.now x 0))
-        from (end - from) pixels.old }
+    requires callable { F.IsAlwaysCallable shown }
+    requires group { c < 20 }
+    ensures { (p : ℕ → ℕ → ℕ → ℕ)
+        → Shows (F.post shown) p
+        → pixels.new
+        ≡ painted (λ x _. p (row_dot vram.now (row_in rows.b) x) (row_dot vram.now (row_in rows.a) x) (get_or dots.now x 0))
+        (16 * c) 16 pixels.old }
 {
-    let mut x = from;
-    while x < end {
-        let column = x as u16;
-        pixels[x] = pixel(
-            shadow,
-            back,
-            row_dot(vram, b, column),
-            row_dot(vram, a, column),
-            byte_at(dots, x),
-        );
-        x += 1;
+    let from = 16 * u16::from(c);
+    for x in from..from + 16 {
+        let i = usize::from(x);
+        pixels[i] = shown(Dots {
+            b: row_dot(vram, rows.b, x),
+            a: row_dot(vram, rows.a, x),
+            sprite: dots[i],
+        });
     }
 }
 
-// Writes the visible columns of a displayed line.
-pub(crate) fn draw_columns(s: State, vram: &[u8], line: u8, dots: &[u8], pixels: &mut [u8])
-    requires { length pixels.old ≡ 320 }
+// Writes the visible columns of a line.
+fn paint_columns<F: Fn(Dots) -> u8>(
+    s: State,
+    vram: &[u8],
+    line: u8,
+    dots: &[u8; 320],
+    pixels: &mut [u8; 320],
+    shown: F,
+)
+    requires { F.IsAlwaysCallable shown }
+    ensures { (p : ℕ → ℕ → ℕ → ℕ)
+        → Shows (F.post shown) p
+        → pixels.new
+        ≡ painted (λ x _. p (dot_b (chip s vram.now) line x) (dot_a (chip s vram.now) line x) (get_or dots.now x 0))
+        0 (width_of (is_wide s)) pixels.old }
+{
+    let view = view_of(s, vram, line);
+    let groups = (width_of(wide(s)) / 16) as u8;
+    for c in 0..groups {
+        let rows = Rows {
+            b: row_b(view, &s.vsram, c, line),
+            a: row_a(view, &s.vsram, c, line),
+        };
+        paint_group(vram, rows, dots, c, pixels, &shown);
+    }
+}
+
+// Writes the visible columns of a displayed line. Shadow is asked once, and not at each column.
+pub(crate) fn draw_columns(
+    s: State,
+    vram: &[u8],
+    line: u8,
+    dots: &[u8; 320],
+    pixels: &mut [u8; 320],
+)
     ensures { pixels.new
         ≡ painted (λ x _. mixed (chip s vram.now) line dots.now x)
         0 (width_of (is_wide s)) pixels.old }
 {
-    let view = view_of(s, vram, line);
-    let vsram = s.vsram;
-    let shadow = shadow(s);
     let back = backdrop(s);
-    let groups = (width_of(wide(s)) / 16) as u8;
-    let mut c: u8 = 0;
-    while c < groups {
-        let b = row_b(view, &vsram, c, line);
-        let a = row_a(view, &vsram, c, line);
-        let from = 16 * (c as usize);
-        mix_columns(vram, shadow, back, b, a, dots, from, from + 16, pixels);
-        c += 1;
-    }
-}
-
-// Writes the backdrop over the visible columns of a blanked line.
-pub(crate) fn blank_columns(width: u32, back: u8, pixels: &mut [u8])
-    requires { width ≤ length pixels.old }
-    ensures { pixels.new ≡ painted (λ x _. back) 0 width pixels.old }
-{
-    let mut x: u32 = 0;
-    while x < width {
-        pixels[x as usize] = back;
-        x += 1;
+    if shadow(s) {
+        paint_columns(s, vram, line, dots, pixels, |there| shaded(back, there));
+    } else {
+        paint_columns(s, vram, line, dots, pixels, |there| mix(back, there));
     }
 }

@@ -1,15 +1,25 @@
 // Shadow and highlight (definition, Drawing): the intensity of a column, and its pixel byte.
 ghost use Rattle.std.specs.Prelude.{◌≡◌, true, ◌<◌};
-ghost use Rattle.vdp_line.specs.Intensity.{sprite_drawn, behind_sprites, sprite_in_front, raised as raised_of, under_sprite, shade as shade_of, pixel as pixel_of};
+ghost use Rattle.vdp_line.specs.Intensity.{intensity_in, sprite_drawn, behind_sprites, sprite_in_front, raised as raised_of, under_sprite, shade as shade_of, pixel as pixel_of};
 
-use crate::mix::{in_front, mix};
+use crate::mix::{Dots, in_front, mix};
 use vdp_draw::dot::{high, solid};
 
-const NORMAL: u8 = 0;
+// The intensities, each with what it adds to a colour index.
+#[derive(Clone, Copy, PartialEq, Eq, Debug)]
+enum Intensity {
+    Normal = 0,
+    Half = 64,
+    Double = 128,
+}
 
-const HALF: u8 = 64;
-
-const DOUBLE: u8 = 128;
+impl Intensity {
+    fn number(self) -> u8
+        ensures { result ≡ intensity_in self }
+    {
+        self as u8
+    }
+}
 
 // The colour indexes that a sprite does not draw.
 const DARKENS: u8 = 62;
@@ -20,71 +30,73 @@ const LIGHTENS: u8 = 63;
 fn sprite_drawn(sprite: u8) -> u8
     ensures { result ≡ sprite_drawn true sprite }
 {
-    if (sprite % 64 == DARKENS) | (sprite % 64 == LIGHTENS) {
-        0
-    } else {
-        sprite
+    match sprite % 64 {
+        DARKENS | LIGHTENS => 0,
+        _ => sprite,
     }
 }
 
 // The intensity of backdrop and planes: priority counts, solid or clear.
-fn behind_sprites(b: u8, a: u8) -> u8
-    ensures { result ≡ behind_sprites b a }
+fn behind_sprites(dots: Dots) -> Intensity
+    ensures { intensity_in result ≡ behind_sprites dots.b dots.a }
 {
-    if high(a) | high(b) { NORMAL } else { HALF }
+    if high(dots.a) | high(dots.b) {
+        Intensity::Normal
+    } else {
+        Intensity::Half
+    }
 }
 
 // Whether the sprites' dot lies in front of both planes.
-fn sprite_in_front(b: u8, a: u8, sprite: u8) -> bool
-    ensures { result ≡ sprite_in_front b a sprite }
+fn sprite_in_front(dots: Dots) -> bool
+    ensures { result ≡ sprite_in_front dots.b dots.a dots.sprite }
 {
-    solid(sprite) & (high(sprite) | !(in_front(a) | in_front(b)))
+    solid(dots.sprite) & (high(dots.sprite) | !(in_front(dots.a) | in_front(dots.b)))
 }
 
 // One step up from half or normal.
-fn raised(there: u8) -> u8
-    ensures { result ≡ raised_of there }
+fn raised(there: Intensity) -> Intensity
+    ensures { intensity_in result ≡ raised_of (intensity_in there) }
 {
-    if there == HALF { NORMAL } else { DOUBLE }
+    match there {
+        Intensity::Half => Intensity::Normal,
+        _ => Intensity::Double,
+    }
 }
 
 // What a sprites' dot in front makes of the intensity there.
-fn under_sprite(sprite: u8, there: u8) -> u8
-    ensures { result ≡ under_sprite sprite there }
+fn under_sprite(sprite: u8, there: Intensity) -> Intensity
+    ensures { intensity_in result ≡ under_sprite sprite (intensity_in there) }
 {
-    if sprite % 64 == DARKENS {
-        return HALF;
-    }
-    if sprite % 64 == LIGHTENS {
-        return raised(there);
-    }
-    if high(sprite) | (sprite % 16 == 14) {
-        NORMAL
-    } else {
-        there
+    match sprite % 64 {
+        DARKENS => Intensity::Half,
+        LIGHTENS => raised(there),
+        _ if high(sprite) | (sprite % 16 == 14) => Intensity::Normal,
+        _ => there,
     }
 }
 
 // The intensity of a column with shadow and highlight.
-fn shade(b: u8, a: u8, sprite: u8) -> u8
-    ensures { result ≡ shade_of b a sprite }
+fn shade(dots: Dots) -> Intensity
+    ensures { intensity_in result ≡ shade_of dots.b dots.a dots.sprite }
 {
-    let there = behind_sprites(b, a);
-    if sprite_in_front(b, a, sprite) {
-        under_sprite(sprite, there)
+    let there = behind_sprites(dots);
+    if sprite_in_front(dots) {
+        under_sprite(dots.sprite, there)
     } else {
         there
     }
 }
 
-// The pixel byte of a column; without shadow it is mixed and no more.
+// The pixel byte of a column with shadow and highlight.
 #[tactic(auto, unfolding(crate::specs::Intensity::pixel, crate::specs::Intensity::intensity))]
-pub(crate) fn pixel(shadow: bool, backdrop: u8, b: u8, a: u8, sprite: u8) -> u8
+pub(crate) fn shaded(backdrop: u8, dots: Dots) -> u8
     requires { backdrop < 64 }
-    ensures { result ≡ pixel_of shadow backdrop b a sprite }
+    ensures { result ≡ pixel_of true backdrop dots.b dots.a dots.sprite }
 {
-    if shadow {
-        return mix(backdrop, b, a, sprite_drawn(sprite)) + shade(b, a, sprite);
-    }
-    mix(backdrop, b, a, sprite)
+    let drawn = Dots {
+        sprite: sprite_drawn(dots.sprite),
+        ..dots
+    };
+    mix(backdrop, drawn) + shade(dots).number()
 }

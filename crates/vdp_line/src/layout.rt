@@ -1,7 +1,9 @@
 // The layout of a line from the registers (definition, Drawing; notes s12 to s14, s17).
 ghost use Rattle.std.specs.Prelude.{◌≡◌, ◌/◌, ◌%◌, ◌<◌, eqb};
-ghost use Rattle.vdp_line.specs.Layout.{wide as is_wide, shadow as is_shadow, height as height_of, displayed as is_displayed, backdrop as backdrop_of, base_a, base_b, base_window, base_sprites, code_across, code_down, cells as cells_of, scroll_line, scroll_place};
+ghost use Rattle.vdp_line.specs.Layout.{wide as is_wide, shadow as is_shadow, height as height_of, displayed as is_displayed, backdrop as backdrop_of, base_of, base_window, base_sprites, code_across, code_down, cells as cells_of, scroll_line, scroll_place};
+ghost use Rattle.vdp_line.specs.Extent.{cells_in};
 
+use crate::extent::{Extent, PlaneName};
 use vdp_state::state::State;
 
 // A bit of a register, by its value.
@@ -43,16 +45,15 @@ pub(crate) fn backdrop(s: State) -> u8
     s.registers[7] % 64
 }
 
-pub(crate) fn base_a(s: State) -> u16
-    ensures { result ≡ base_a s }
+// Where a plane's cells begin.
+pub(crate) fn base_of(s: State, plane: PlaneName) -> u16
+    ensures { result ≡ base_of s plane }
 {
-    ((s.registers[2] / 8 % 8) as u16) * 8192
-}
-
-pub(crate) fn base_b(s: State) -> u16
-    ensures { result ≡ base_b s }
-{
-    ((s.registers[4] % 8) as u16) * 8192
+    let bits = match plane {
+        PlaneName::A => s.registers[2] / 8,
+        PlaneName::B => s.registers[4],
+    };
+    u16::from(bits % 8) * 8192
 }
 
 pub(crate) fn base_window(s: State) -> u16
@@ -60,9 +61,9 @@ pub(crate) fn base_window(s: State) -> u16
 {
     let r = s.registers[3];
     if wide(s) {
-        ((r / 4 % 16) as u16) * 4096
+        u16::from(r / 4 % 16) * 4096
     } else {
-        ((r / 2 % 32) as u16) * 2048
+        u16::from(r / 2 % 32) * 2048
     }
 }
 
@@ -71,22 +72,24 @@ pub(crate) fn base_sprites(s: State) -> u16
 {
     let r = s.registers[5];
     if wide(s) {
-        ((r / 2 % 64) as u16) * 1024
+        u16::from(r / 2 % 64) * 1024
     } else {
-        ((r % 128) as u16) * 512
+        u16::from(r % 128) * 512
     }
 }
 
-// A plane's size from its code.
-pub(crate) fn cells(code: u8) -> u8
-    ensures { result ≡ cells_of code }
+// How far a plane reaches, from its code: 0, 1 or 3.
+pub(crate) fn cells(code: u8) -> Extent
+    ensures { cells_in result ≡ cells_of code }
 {
-    if code == 0 {
-        return 32;
+    match code {
+        0 => Extent::Cells32,
+        1 => Extent::Cells64,
+        _ => Extent::Cells128,
     }
-    if code == 1 { 64 } else { 128 }
 }
 
+// The two codes, each one expression of register 16: a function of both would take the divisor and be no plainer.
 pub(crate) fn code_across(s: State) -> u8
     ensures { result ≡ code_across s }
 {
@@ -99,23 +102,23 @@ pub(crate) fn code_down(s: State) -> u8
     s.registers[16] / 16 % 4
 }
 
-// The line whose entry of the horizontal scroll table holds.
+// The line whose entry of the horizontal scroll table holds. The mode is two bits of register 11 that are asked here
+// alone, so that an enum would be made of them by the same four arms.
 fn scroll_line(mode: u8, line: u8) -> u8
     ensures { result ≡ scroll_line mode line }
 {
-    if mode == 0 {
-        return 0;
+    match mode {
+        0 => 0,
+        1 => line % 8,
+        2 => line - line % 8,
+        _ => line,
     }
-    if mode == 1 {
-        return line % 8;
-    }
-    if mode == 2 { line - line % 8 } else { line }
 }
 
 // Where that entry lies.
 pub(crate) fn scroll_place(s: State, line: u8) -> u32
     ensures { result ≡ scroll_place s line }
 {
-    let base = ((s.registers[13] % 64) as u32) * 1024;
-    base + 4 * (scroll_line(s.registers[11] % 4, line) as u32)
+    let base = u32::from(s.registers[13] % 64) * 1024;
+    base + 4 * u32::from(scroll_line(s.registers[11] % 4, line))
 }

@@ -3,6 +3,7 @@
 #![tactic(auto)]
 
 pub mod columns;
+pub mod extent;
 pub mod intensity;
 pub mod layout;
 pub mod line;

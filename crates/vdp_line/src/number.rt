@@ -1,11 +1,12 @@
 // The number that a line answers (definition, Numbers a call may answer; Drawing).
 ghost use Rattle.std.specs.Prelude.{◌≡◌, ◌<◌};
+ghost use Rattle.vdp_state.specs.Answer.{number_in};
 ghost use Rattle.vdp_state.specs.State.{chip};
 ghost use Rattle.vdp_line.specs.Line.{plane_cells, not_modelled, line_number};
 
 use crate::layout::{bit, cells, code_across, code_down, height};
 use vdp_ports::refusal::VRAM_SIZE;
-use vdp_state::answer::{BAD_BUFFER, BAD_STATE, DONE, NO_SUCH_PLACE, NOT_MODELLED};
+use vdp_state::answer::Refusal;
 use vdp_state::good::good;
 use vdp_state::state::State;
 
@@ -15,7 +16,7 @@ pub const LINE_SIZE: usize = 320;
 fn plane_cells(s: State) -> u32
     ensures { result ≡ plane_cells s }
 {
-    (cells(code_across(s)) as u32) * (cells(code_down(s)) as u32)
+    u32::from(cells(code_across(s)).cells()) * u32::from(cells(code_down(s)).cells())
 }
 
 // Whether the registers ask for what is not modelled.
@@ -38,21 +39,24 @@ fn not_modelled(s: State) -> bool
         | (4096 < plane_cells(s))
 }
 
-// The number that a line answers.
-pub fn line_number(s: State, vram: &[u8], line: u32, pixels: &[u8]) -> u8
-    ensures { result ≡ line_number (chip s vram.now) line pixels.now }
+// Whether a line is refused.
+pub fn line_check(s: State, vram: &[u8], line: u32, pixels: &[u8]) -> Result<(), Refusal>
+    ensures { number_in result ≡ line_number (chip s vram.now) line pixels.now }
 {
     if !good(s) {
-        return BAD_STATE;
+        return Err(Refusal::BadState);
     }
     if vram.len() != VRAM_SIZE {
-        return BAD_BUFFER;
+        return Err(Refusal::BadBuffer);
     }
     if pixels.len() != LINE_SIZE {
-        return BAD_BUFFER;
+        return Err(Refusal::BadBuffer);
     }
     if height(s) <= line {
-        return NO_SUCH_PLACE;
+        return Err(Refusal::NoSuchPlace);
     }
-    if not_modelled(s) { NOT_MODELLED } else { DONE }
+    if not_modelled(s) {
+        return Err(Refusal::NotModelled);
+    }
+    Ok(())
 }

@@ -1,13 +1,15 @@
 // What a line needs of the registers, computed once, and the rows that 16 columns of the screen show.
-ghost use Rattle.std.specs.Prelude.{◌≡◌, ◌≤◌, ◌<◌};
+ghost use Rattle.std.specs.Prelude.{◌≡◌};
 ghost use Rattle.vdp_state.specs.State.{chip};
+ghost use Rattle.vdp_line.specs.Extent.{plane_number};
 ghost use Rattle.vdp_line.specs.Layer.{horizontal as horizontal_of};
-ghost use Rattle.vdp_line.specs.Plane.{side as side_of};
-ghost use Rattle.vdp_line.specs.View.{view_of, scroll_word, scrolled_row, row_a_at, row_b_at};
+ghost use Rattle.vdp_line.specs.Plane.{side as side_of, row_in};
+ghost use Rattle.vdp_line.specs.View.{view_of, scroll_word, scrolled_row, row_a_at, row_b_at, scrolled_in, view_in};
 
+use crate::extent::PlaneName;
 use crate::layout::{bit, scroll_place};
-use crate::plane::{Plane, Row, plane_a, plane_b, row_of, window};
-use vdp_state::cell::{number_at, word_at};
+use crate::plane::{Plane, Row, plane_of, row_of, window};
+use vdp_state::cell::{get_or, word_at};
 use vdp_state::state::State;
 
 // A plane and its horizontal scroll.
@@ -37,27 +39,25 @@ fn side(other: bool, below: bool) -> bool
     if other { !below } else { below }
 }
 
-// The horizontal scroll of plane 0 (A) or 1 (B).
-fn horizontal(s: State, vram: &[u8], line: u8, plane: u8) -> u16
-    ensures { result ≡ horizontal_of (chip s vram.now) line plane }
+// A plane's horizontal scroll.
+fn horizontal(s: State, vram: &[u8], line: u8, name: PlaneName) -> u16
+    ensures { result ≡ horizontal_of (chip s vram.now) line (plane_number name) }
 {
-    word_at(vram, scroll_place(s, line) + 2 * (plane as u32)) % 1024
+    word_at(vram, scroll_place(s, line) + 2 * (name as u32)) % 1024
 }
 
 pub(crate) fn view_of(s: State, vram: &[u8], line: u8) -> View
-    ensures { result ≡ view_of (chip s vram.now) line }
+    ensures { view_in result ≡ view_of (chip s vram.now) line }
 {
     let down = s.registers[18];
     let across = s.registers[17];
+    let scrolled = |name: PlaneName| Scrolled {
+        plane: plane_of(s, name),
+        h: horizontal(s, vram, line, name),
+    };
     View {
-        a: Scrolled {
-            plane: plane_a(s),
-            h: horizontal(s, vram, line, 0),
-        },
-        b: Scrolled {
-            plane: plane_b(s),
-            h: horizontal(s, vram, line, 1),
-        },
+        a: scrolled(PlaneName::A),
+        b: scrolled(PlaneName::B),
         window: window(s),
         stepped: bit(s.registers[11], 4),
         whole: side(bit(down, 128), line / 8 < down % 32),
@@ -66,38 +66,40 @@ pub(crate) fn view_of(s: State, vram: &[u8], line: u8) -> View
     }
 }
 
-// Which scroll word holds for plane 0 (A) or 1 (B) on the 16 columns from 16 c on.
-fn scroll_word(stepped: bool, plane: u8, c: u8) -> u8
-    requires { (c ≤ 20) × (plane ≤ 1) }
-    ensures { result ≡ scroll_word stepped plane c }
+// Which scroll word holds for a plane on the 16 columns from 16 c on.
+fn scroll_word(stepped: bool, name: PlaneName, c: u8) -> usize
+    ensures { result ≡ scroll_word stepped (plane_number name) c }
 {
-    if stepped { 2 * c + plane } else { plane }
+    let plane = name as usize;
+    if stepped {
+        2 * usize::from(c) + plane
+    } else {
+        plane
+    }
 }
 
 // The row of a plane there.
-fn scrolled_row(p: Scrolled, stepped: bool, plane: u8, vsram: &[u16], c: u8, line: u8) -> Row
-    requires { (0 < p.plane.rows) × (p.h ≤ 1024) × (c ≤ 20) × (plane ≤ 1) }
-    ensures { result ≡ scrolled_row p stepped plane vsram.now c line }
+fn scrolled_row(p: Scrolled, stepped: bool, name: PlaneName, vsram: &[u16], c: u8, line: u8) -> Row
+    ensures { row_in result
+        ≡ scrolled_row (scrolled_in p) stepped (plane_number name) vsram.now c line }
 {
-    let word = scroll_word(stepped, plane, c) as usize;
-    row_of(p.plane, p.h, number_at(vsram, word), line)
+    let v = get_or(vsram, scroll_word(stepped, name, c), 0);
+    row_of(p.plane, p.h, v, line)
 }
 
 // The row of the window or of plane A there.
 pub(crate) fn row_a(v: View, vsram: &[u16], c: u8, line: u8) -> Row
-    requires { (0 < v.a.plane.rows) × (v.a.h ≤ 1024) × (0 < v.window.rows) × (c ≤ 20) }
-    ensures { result ≡ row_a_at v vsram.now c line }
+    ensures { row_in result ≡ row_a_at (view_in v) vsram.now c line }
 {
     if v.whole | side(v.beyond, c < v.edge) {
         return row_of(v.window, 0, 0, line);
     }
-    scrolled_row(v.a, v.stepped, 0, vsram, c, line)
+    scrolled_row(v.a, v.stepped, PlaneName::A, vsram, c, line)
 }
 
 // The row of plane B there.
 pub(crate) fn row_b(v: View, vsram: &[u16], c: u8, line: u8) -> Row
-    requires { (0 < v.b.plane.rows) × (v.b.h ≤ 1024) × (c ≤ 20) }
-    ensures { result ≡ row_b_at v vsram.now c line }
+    ensures { row_in result ≡ row_b_at (view_in v) vsram.now c line }
 {
-    scrolled_row(v.b, v.stepped, 1, vsram, c, line)
+    scrolled_row(v.b, v.stepped, PlaneName::B, vsram, c, line)
 }

@@ -1,6 +1,6 @@
 -- A new frame: definition, Ports ("A new frame clears overflow, collision and used up and changes nothing else.").
 use Rattle.std.specs.Prelude.{false, List, [], ◌∷◌}
-use Rattle.vdp_state.specs.declared.answer.Answer.{Answer}
+use Rattle.vdp_state.specs.Answer.{Answer}
 use Rattle.vdp_state.specs.declared.state.State.{State}
 use Rattle.vdp_state.specs.declared.state.Step.{Step}
 use Rattle.vdp_state.specs.declared.state.Store.TheVariants.{Nothing}

@@ -3,7 +3,7 @@ ghost use Rattle.std.specs.Prelude.{◌≡◌};
 ghost use Rattle.vdp_state.specs.State.{chip};
 ghost use Rattle.vdp_ports.specs.Access.{access as access_by, swapped as swapped_word, written_to, written as written_by, read_from, read_word};
 
-use vdp_state::cell::{number_at, word_at};
+use vdp_state::cell::{get_or, word_at};
 use vdp_state::colour::colour_word;
 use vdp_state::state::{State, Store};
 
@@ -81,8 +81,7 @@ pub fn written(access: Access, address: u16, w: u16) -> Store
 {
     match access {
         Access::Write(memory) => memory_store(memory, address, w),
-        Access::Read(_) => Store::Nothing,
-        Access::Nothing => Store::Nothing,
+        Access::Read(_) | Access::Nothing => Store::Nothing,
     }
 }
 
@@ -92,8 +91,8 @@ fn memory_word(memory: Memory, s: State, vram: &[u8], address: u16) -> u16
     let i = (address / 2 % 64) as usize;
     match memory {
         Memory::Vram => word_at(vram, (address - address % 2) as u32),
-        Memory::Cram => number_at(&s.cram, i),
-        Memory::Vsram => number_at(&s.vsram, i),
+        Memory::Cram => get_or(&s.cram, i, 0),
+        Memory::Vsram => get_or(&s.vsram, i, 0),
     }
 }
 
@@ -103,7 +102,6 @@ pub fn read_word(access: Access, s: State, vram: &[u8], address: u16) -> u16
 {
     match access {
         Access::Read(memory) => memory_word(memory, s, vram, address),
-        Access::Write(_) => 0,
-        Access::Nothing => 0,
+        Access::Write(_) | Access::Nothing => 0,
     }
 }

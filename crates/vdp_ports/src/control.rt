@@ -1,59 +1,60 @@
 // The control port (definition, Ports and DMA; notes s7 and s11): what a control word does.
 ghost use Rattle.std.specs.Prelude.{◌≡◌, ◌+◌, ◌*◌};
-ghost use Rattle.vdp_state.specs.Answer.{first};
+ghost use Rattle.vdp_state.specs.Answer.{number_in, answer_of, first};
 ghost use Rattle.vdp_ports.specs.Control.{byte_word, fill_dropped, register_write, first_half, second_half, dma_started, dma_after, control_step, control_tests, control_write};
 
-use crate::length::{byte_length, copy, fill_waiting, idle, pair, transfer, word_length};
+use crate::length::{Bytes, Words, copy, fill_waiting, idle, length, transfer};
 use crate::refusal::busy;
 use crate::taken::{Taken, has_register, register_of, taken_as};
-use vdp_state::answer::{Answer, BAD_STATE, BUSY, DONE, answered};
+use vdp_state::answer::{Done, Refusal, made};
+use vdp_state::cell::joined;
 use vdp_state::good::good;
+use vdp_state::kind::DmaKind;
 use vdp_state::state::{Control, Dma, Port, State, Step, Store};
 
 fn fill_dropped(d: Dma) -> Dma
     ensures { result ≡ fill_dropped d }
 {
-    if d.kind == 1 { idle() } else { d }
+    if d.is(DmaKind::FillWaiting) {
+        idle()
+    } else {
+        d
+    }
 }
 
 fn register_write(c: Control, w: u16) -> Step
     ensures { result ≡ register_write c w }
 {
     let i = register_of(w);
-    if has_register(i) {
-        let mut port = c.port;
-        port.code = 0;
-        let dma = fill_dropped(c.dma);
-        let mut control = c;
-        control.port = port;
-        control.dma = dma;
+    if !has_register(i) {
         return Step {
-            control,
-            store: Store::Register(i, (w % 256) as u8),
+            control: c,
+            store: Store::Nothing,
         };
     }
     Step {
-        control: c,
-        store: Store::Nothing,
+        control: Control {
+            port: Port { code: 0, ..c.port },
+            dma: fill_dropped(c.dma),
+            ..c
+        },
+        store: Store::Register(i, (w % 256) as u8),
     }
 }
 
 fn first_half(c: Control, w: u16) -> Step
     ensures { result ≡ first_half c w }
 {
-    let address = c.port.address;
-    let code = c.port.code;
-    let port = Port {
-        address: address / 16384 * 16384 + w % 16384,
-        code: code / 4 * 4 + (w / 16384) as u8,
-        pending: true,
-    };
-    let dma = fill_dropped(c.dma);
-    let mut control = c;
-    control.port = port;
-    control.dma = dma;
     Step {
-        control,
+        control: Control {
+            port: Port {
+                address: c.port.address / 16384 * 16384 + w % 16384,
+                code: c.port.code / 4 * 4 + (w / 16384) as u8,
+                pending: true,
+            },
+            dma: fill_dropped(c.dma),
+            ..c
+        },
         store: Store::Nothing,
     }
 }
@@ -62,7 +63,7 @@ fn first_half(c: Control, w: u16) -> Step
 fn transfer_source(high: u8, middle: u8, low: u8) -> u32
     ensures { result ≡ 2 * (high * 65536 + middle * 256 + low) }
 {
-    2 * ((high as u32) * 65536 + (middle as u32) * 256 + (low as u32))
+    2 * u32::from_be_bytes([0, high, middle, low])
 }
 
 // The DMA that registers 19 to 23 describe, as it begins.
@@ -73,12 +74,12 @@ fn dma_started(s: State) -> Dma
     let middle = s.registers[22];
     let low = s.registers[21];
     if mode < 128 {
-        return transfer(word_length(s), transfer_source(mode, middle, low));
+        return transfer(Words(length(s)), transfer_source(mode, middle, low));
     }
     if mode < 192 {
         return fill_waiting();
     }
-    copy(byte_length(s), pair(middle, low))
+    copy(Bytes(length(s)), u32::from(joined(middle, low)))
 }
 
 fn dma_after(s: State, w: u16) -> Dma
@@ -95,19 +96,17 @@ fn dma_after(s: State, w: u16) -> Dma
 fn second_half(s: State, w: u16) -> Step
     ensures { result ≡ second_half s w }
 {
-    let address = s.control.port.address;
-    let code = s.control.port.code;
-    let port = Port {
-        address: w % 4 * 16384 + address % 16384,
-        code: ((w / 16 % 16) as u8) * 4 + code % 4,
-        pending: false,
-    };
-    let dma = dma_after(s, w);
-    let mut control = s.control;
-    control.port = port;
-    control.dma = dma;
+    let port = s.control.port;
     Step {
-        control,
+        control: Control {
+            port: Port {
+                address: w % 4 * 16384 + port.address % 16384,
+                code: ((w / 16 % 16) as u8) * 4 + port.code % 4,
+                pending: false,
+            },
+            dma: dma_after(s, w),
+            ..s.control
+        },
         store: Store::Nothing,
     }
 }
@@ -124,26 +123,30 @@ pub fn control_step(s: State, w: u16) -> Step
     }
 }
 
-// The number that a control write answers.
-pub fn control_number(s: State) -> u8
-    ensures { result ≡ first (control_tests s) }
+// Whether a control write is refused.
+pub fn control_check(s: State) -> Result<(), Refusal>
+    ensures { number_in result ≡ first (control_tests s) }
 {
     if !good(s) {
-        return BAD_STATE;
+        return Err(Refusal::BadState);
     }
-    if busy(s) { BUSY } else { DONE }
+    if busy(s) {
+        return Err(Refusal::Busy);
+    }
+    Ok(())
 }
 
 // Writes a word to the control port.
-pub fn control_write(s: State, w: u16) -> Answer
-    ensures { result ≡ control_write s w }
+pub fn control_write(s: State, w: u16) -> Result<Done, Refusal>
+    ensures { answer_of s result ≡ control_write s w }
 {
-    answered(control_number(s), s, control_step(s, w), 0)
+    control_check(s)?;
+    Ok(made(s, control_step(s, w), 0))
 }
 
 // Writes a byte to the control port: the byte stands in both halves of the word.
-pub fn control_write_byte(s: State, b: u8) -> Answer
-    ensures { result ≡ control_write s (byte_word b) }
+pub fn control_write_byte(s: State, b: u8) -> Result<Done, Refusal>
+    ensures { answer_of s result ≡ control_write s (byte_word b) }
 {
-    control_write(s, 257 * (b as u16))
+    control_write(s, 257 * u16::from(b))
 }

@@ -1,10 +1,10 @@
 // A new frame (definition, Ports).
 ghost use Rattle.std.specs.Prelude.{◌≡◌};
-ghost use Rattle.vdp_state.specs.Answer.{first};
+ghost use Rattle.vdp_state.specs.Answer.{number_in, answer_of, first};
 ghost use Rattle.vdp_ports.specs.Frame.{frame_step, frame_tests, new_frame};
 
 use crate::status::flags_cleared;
-use vdp_state::answer::{Answer, BAD_STATE, DONE, answered};
+use vdp_state::answer::{Done, Refusal, made};
 use vdp_state::good::good;
 use vdp_state::state::{State, Step, Store};
 
@@ -12,23 +12,26 @@ use vdp_state::state::{State, Step, Store};
 pub fn frame_step(s: State) -> Step
     ensures { result ≡ frame_step s }
 {
-    let cleared = flags_cleared(s.control, false);
     Step {
-        control: cleared,
+        control: flags_cleared(s.control, false),
         store: Store::Nothing,
     }
 }
 
-// The number that a new frame answers.
-pub fn frame_number(s: State) -> u8
-    ensures { result ≡ first (frame_tests s) }
+// Whether a new frame is refused.
+pub fn frame_check(s: State) -> Result<(), Refusal>
+    ensures { number_in result ≡ first (frame_tests s) }
 {
-    if good(s) { DONE } else { BAD_STATE }
+    if !good(s) {
+        return Err(Refusal::BadState);
+    }
+    Ok(())
 }
 
 // Begins a new frame.
-pub fn new_frame(s: State) -> Answer
-    ensures { result ≡ new_frame s }
+pub fn new_frame(s: State) -> Result<Done, Refusal>
+    ensures { answer_of s result ≡ new_frame s }
 {
-    answered(frame_number(s), s, frame_step(s), 0)
+    frame_check(s)?;
+    Ok(made(s, frame_step(s), 0))
 }

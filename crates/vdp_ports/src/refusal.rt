@@ -2,6 +2,7 @@
 ghost use Rattle.std.specs.Prelude.{◌≡◌};
 ghost use Rattle.vdp_ports.specs.Refusal.{filling as is_filling, busy as busy_test, busy_at_status};
 
+use vdp_state::kind::DmaKind;
 use vdp_state::state::State;
 
 pub const VRAM_SIZE: usize = 65536;
@@ -10,14 +11,13 @@ pub const VRAM_SIZE: usize = 65536;
 pub fn filling(s: State) -> bool
     ensures { result ≡ is_filling s }
 {
-    let kind = s.control.dma.kind;
-    (kind == 3) | (kind == 4)
+    s.control.dma.is(DmaKind::Fill) | s.control.dma.is(DmaKind::Copy)
 }
 
 pub fn transferring(s: State) -> bool
     ensures { result ≡ (busy_at_status s).holds }
 {
-    s.control.dma.kind == 2
+    s.control.dma.is(DmaKind::Transfer)
 }
 
 pub fn busy(s: State) -> bool

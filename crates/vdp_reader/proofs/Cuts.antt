@@ -8,17 +8,16 @@ use mathlib.Core.Path.{◌≡◌, refl, sym, ap, ap₂, ◌∙◌}
 use mathlib.Core.Bool.{Bool, true, false, cond}
 use mathlib.Core.List.{List, [], ◌∷◌, ◌++◌, append_assoc}
 use lib.ListN.{length, drop}
-use Rattle.vdp_state.specs.declared.answer.Answer.{Answer}
+use Rattle.vdp_state.specs.Answer.{Answer}
 use Rattle.vdp_state.specs.State.{Chip}
 use Rattle.vdp_state.proofs.Bools.{by_cases, by_cond}
 use Rattle.vdp_script.specs.Call.{call_item}
 use Rattle.vdp_script.specs.Missing.{names_missing}
-use Rattle.vdp_reader.specs.declared.deliver.Delivery.{Delivery}
 use Rattle.vdp_reader.specs.declared.deliver.Reached.{Reached}
 use Rattle.vdp_reader.specs.declared.reader.Reader.{Reader}
 use Rattle.vdp_reader.specs.declared.take.Taking.{Taking}
 use Rattle.vdp_reader.specs.declared.take.Taking.TheVariants.{Kept, Whole, Faulty}
-use Rattle.vdp_reader.specs.Deliver.{DeliverOutcome, deliver_outcome, uncalled, called, reached, reach_from, reach, deliver}
+use Rattle.vdp_reader.specs.Deliver.{DeliveryAnswer, DeliverOutcome, deliver_outcome, uncalled, called, reached, reach_from, reach, deliver}
 use Rattle.vdp_reader.specs.End.{end_notice}
 use Rattle.vdp_reader.specs.Reader.{stopped, goes_on}
 use Rattle.vdp_reader.specs.Take.{takes}
@@ -143,7 +142,7 @@ module _ (cartridge ram : List ℕ) where
       let s : DeliverOutcome = take_byte b cartridge ram r c q in
       let a : Alike o s = alike_byte c p q h b r in
       ap (told_behind (call_of o)) (told_same bytes o.answer.reader (chip_of o) o.pixels s.pixels a.size)
-      ∙ ap₂ (λ (d : Delivery) (vram : List ℕ). told (next bytes (deliver_outcome d vram s.pixels))) a.answer a.vram
+      ∙ ap₂ (λ (d : DeliveryAnswer) (vram : List ℕ). told (next bytes (deliver_outcome d vram s.pixels))) a.answer a.vram
 
   kept_size : (bytes : List ℕ) (r : Reader) (c : Chip) (pixels : List ℕ) → length (deliver_bytes bytes cartridge ram r c pixels).pixels ≡ length pixels
   kept_size [] r c pixels = refl

@@ -12,11 +12,10 @@ use native.Mathlib.Omega.{arith}
 use borrow.Author.Tests.{eqb-true, eqb-false}
 use lib.Dec.{eqb}
 use lib.ListN.{length, get_or, drop}
+use Rattle.std.specs.Prelude.{Option, Some, None}
 use Rattle.vdp_state.specs.Cell.{word_at}
 use Rattle.vdp_state.specs.State.{Chip}
 use Rattle.vdp_state.proofs.Bools.{by_cond}
-use Rattle.vdp_script.specs.declared.item.Found.{Found}
-use Rattle.vdp_script.specs.declared.item.Found.TheVariants.{Whole as Named, Faulty as Unnamed}
 use Rattle.vdp_script.specs.declared.item.Item.{Item}
 use Rattle.vdp_script.specs.declared.item.Item.TheVariants.{ControlWord, DataWord, DataRead, StatusRead, Run, Line, NewFrame}
 use Rattle.vdp_script.specs.Call.{call_item}
@@ -54,9 +53,9 @@ sort (Line n) = long refl refl
 sort NewFrame = short refl refl refl
 
 -- an item that is found for a kind is of it, and a kind that has a content has an item
-abbrev OfKind : ℕ → Found → Type 0
-OfKind kind Unnamed = has_content kind ≡ false
-OfKind kind (Named i) = kind ≡ kind_of i
+abbrev OfKind : ℕ → Option Item → Type 0
+OfKind kind None = has_content kind ≡ false
+OfKind kind (Some i) = kind ≡ kind_of i
 
 of_kind : (kind w : ℕ) → OfKind kind (item_from kind w)
 of_kind kind w =
@@ -70,29 +69,29 @@ of_kind kind w =
     (λ _. simp (n1, n2, n5, n6))))))))
 
 module _ (kind w : ℕ) (h : has_content kind ≡ true) where
-  long_found : (f : Found) → OfKind kind f → (i : Item) × (f ≡ Named i) × (3 ≡ length_of i)
-  long_found Unnamed n = absurd (true≢false (sym h ∙ n))
-  long_found (Named i) same =
+  long_found : (f : Option Item) → OfKind kind f → (i : Item) × (f ≡ Some i) × (3 ≡ length_of i)
+  long_found None n = absurd (true≢false (sym h ∙ n))
+  long_found (Some i) same =
       (i, refl, elim (sort i) [ short _ n _ ↦ absurd (true≢false (sym h ∙ ap has_content same ∙ n)) | long l _ ↦ sym l ])
 
-  long_item_lem : (i : Item) × (item_from kind w ≡ Named i) × (3 ≡ length_of i)
+  long_item_lem : (i : Item) × (item_from kind w ≡ Some i) × (3 ≡ length_of i)
   long_item_lem = long_found (item_from kind w) (of_kind kind w)
 
 module _ (bytes : List ℕ) where
   -- a whole item is passed over
-  item_passed : (i : Item) → item_from (get_or bytes 2 0) (word_at bytes 3) ≡ Named i → word_at bytes 0 ≡ length_of i → 2 + word_at bytes 0 ≤ length bytes
+  item_passed : (i : Item) → item_from (get_or bytes 2 0) (word_at bytes 3) ≡ Some i → word_at bytes 0 ≡ length_of i → 2 + word_at bytes 0 ≤ length bytes
       → faulty_from bytes ≡ faulty_from (drop (2 + word_at bytes 0) bytes)
   item_passed i e l h =
-      ap (λ (f : Form). f.faulty) (at_whole bytes i (sym (whole bytes (Named i) (sym e) i refl (omega (arith, size i)) (omega (arith, size i)))))
+      ap (λ (f : Form). f.faulty) (at_whole bytes i (sym (whole bytes (Some i) (sym e) i refl (omega (arith, size i)) (omega (arith, size i)))))
       ∙ ap (λ (n : ℕ). faulty_from (drop n bytes)) (let n : length (item_bytes i) ≡ 2 + word_at bytes 0 = omega (arith, size i) in n)
 
   -- no item is of their length and of their kind
   abbrev NoneFits : Type 0
   NoneFits = (i : Item) → word_at bytes 0 ≡ length_of i → get_or bytes 2 0 ≡ kind_of i → Sort i → ⊥
 
-  none_found : (f : Found) → item_of bytes ≡ f → 1 ≤ length bytes → NoneFits → faulty_from bytes ≡ true
-  none_found Unnamed e h none = ap (λ (f : Form). f.faulty) (at_faulty bytes h e)
-  none_found (Named i) e h none =
+  none_found : (f : Option Item) → item_of bytes ≡ f → 1 ≤ length bytes → NoneFits → faulty_from bytes ≡ true
+  none_found None e h none = ap (λ (f : Form). f.faulty) (at_faulty bytes h e)
+  none_found (Some i) e h none =
       let f : Fits bytes i = whole_fits bytes i e in
       absurd (none i f.said (rw f.kind at (of_kind (get_or bytes 2 0) (word_at bytes 3))) (sort i))
 
@@ -172,7 +171,7 @@ module _ (b : ℕ) where
       none_fits (0 ∷ b ∷ rest) (omega arith)
       (λ i said _ s. elim s [ short l _ _ ↦ eqb-false b 1 n1 (omega arith) | long l _ ↦ eqb-false b 3 n3 (omega arith) ])))
 
-  short_whole : (i : Item) → b ≡ kind_of i → ((w : ℕ) → item_from (kind_of i) w ≡ Named i) → length_of i ≡ 1 → Next at_short b (Whole i)
+  short_whole : (i : Item) → b ≡ kind_of i → ((w : ℕ) → item_from (kind_of i) w ≡ Some i) → length_of i ≡ 1 → Next at_short b (Whole i)
   short_whole i e found l =
       λ j rest. item_passed (0 ∷ 1 ∷ b ∷ rest) i (ap (λ (k : ℕ). item_from k (word_at rest 0)) e ∙ found (word_at rest 0)) (sym l) (omega arith) j
 

@@ -3,6 +3,5 @@ pub mod Calls
 pub mod Cuts
 pub mod Deliveries
 pub mod Faults
-pub mod Reaches
 pub mod Readers
 pub mod Scripts

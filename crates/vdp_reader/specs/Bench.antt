@@ -6,9 +6,8 @@ use Rattle.vdp_state.specs.Worked.{Case, gives}
 use Rattle.vdp_script.specs.declared.item.Item.TheVariants.{ControlWord, DataRead, StatusRead, Run, Line, NewFrame}
 use Rattle.vdp_script.specs.Bench.{two, start, ported, bad, busy, zeros}
 use Rattle.vdp_script.specs.Whole.{script_of}
-use Rattle.vdp_reader.specs.declared.deliver.Delivery.{Delivery}
 use Rattle.vdp_reader.specs.declared.reader.Reader.{Reader}
-use Rattle.vdp_reader.specs.Deliver.{deliver}
+use Rattle.vdp_reader.specs.Deliver.{DeliveryAnswer, deliver}
 use Rattle.vdp_reader.specs.End.{end_notice}
 use Rattle.vdp_reader.specs.Reader.{started, between_items, stopped}
 use Rattle.vdp_reader.specs.Whole.{Call, Delivered, deliver_bytes, noticed}
@@ -51,7 +50,7 @@ bit false = 0
 
 abbrev pub first : Reader → List ℕ → List ℕ
 first r bytes =
-    let d : Delivery = (deliver r bytes [] (zeros 65536) (chip start (zeros 65536)) (zeros 320)).answer in
+    let d : DeliveryAnswer = (deliver r bytes [] (zeros 65536) (chip start (zeros 65536)) (zeros 320)).answer in
     d.number ∷ d.taken ∷ bit d.called ∷ []
 
 -- the same of one byte behind an item's length

@@ -1,6 +1,7 @@
 -- Bytes that are delivered to a reader, up to the first call: definition, Scripts, The reader.
-use Rattle.std.specs.Prelude.{ℕ, suc, cond, true, false, List, [], ◌∷◌, eqb}
+use Rattle.std.specs.Prelude.{ℕ, suc, Bool, cond, true, false, List, [], ◌∷◌, eqb, is_some, unwrap_or}
 use Rattle.vdp_state.specs.declared.state.State.{State}
+use Rattle.vdp_state.specs.Answer.{number_in}
 use Rattle.vdp_state.specs.State.{Chip}
 use Rattle.vdp_script.specs.declared.item.Item.{Item}
 use Rattle.vdp_script.specs.Call.{ItemOutcome, call_item}
@@ -13,17 +14,39 @@ use Rattle.vdp_reader.specs.declared.take.Taking.TheVariants.{Kept, Whole, Fault
 use Rattle.vdp_reader.specs.Reader.{between_items, stopped, goes_on, answers}
 use Rattle.vdp_reader.specs.Take.{takes}
 
+-- what a delivery answers: the number, whether a call was made and its result, how many bytes were taken, and what is
+-- handed on
+pub record DeliveryAnswer : Type 0 where
+  pub number : ℕ
+  pub called : Bool
+  pub result : ℕ
+  pub taken : ℕ
+  pub reader : Reader
+  pub state : State
+
+-- by what it gives; "the call's result, or 0"
+abbrev pub delivery_answer_of : Delivery → DeliveryAnswer
+delivery_answer_of d =
+    record {
+      number = number_in d.answer;
+      called = is_some d.call;
+      result = unwrap_or d.call 0;
+      taken = d.taken;
+      reader = d.reader;
+      state = d.state;
+    }
+
 -- what a delivery leaves: its answer, VRAM and the pixel buffer
 pub record DeliverOutcome : Type 0 where
-  pub answer : Delivery
+  pub answer : DeliveryAnswer
   pub vram : List ℕ
   pub pixels : List ℕ
 
-abbrev pub deliver_outcome : Delivery → List ℕ → List ℕ → DeliverOutcome
+abbrev pub deliver_outcome : DeliveryAnswer → List ℕ → List ℕ → DeliverOutcome
 deliver_outcome d vram pixels = record { answer = d; vram = vram; pixels = pixels }
 
 -- so many bytes were taken, and no call was made
-abbrev pub uncalled_with : Reader → ℕ → State → Delivery
+abbrev pub uncalled_with : Reader → ℕ → State → DeliveryAnswer
 uncalled_with r taken s =
     record { number = answers r; called = false; result = 0; taken = taken; reader = r; state = s }
 

@@ -1,7 +1,6 @@
 -- What a byte does in each stage of a reader: definition, Scripts, The reader.
-use Rattle.std.specs.Prelude.{ℕ, ◌+◌, ◌*◌, Bool, cond, eqb}
-use Rattle.vdp_script.specs.declared.item.Found.{Found}
-use Rattle.vdp_script.specs.declared.item.Found.TheVariants.{Whole as Named, Faulty as Unnamed}
+use Rattle.std.specs.Prelude.{ℕ, ◌+◌, ◌*◌, Bool, cond, eqb, Option, Some, None}
+use Rattle.vdp_script.specs.declared.item.Item.{Item}
 use Rattle.vdp_script.specs.declared.item.Item.TheVariants.{DataRead, StatusRead, NewFrame}
 use Rattle.vdp_script.specs.Form.{version}
 use Rattle.vdp_script.specs.Item.{item_from}
@@ -34,9 +33,9 @@ abbrev pub upper_taken : ℕ → ℕ → Taking
 upper_taken kind b = Kept (record { stage = 6; kind = kind; upper = b; number = 0 })
 
 -- stage 6: "the item is whole: its kind is the one kept, its content 256 x upper byte + byte"
-abbrev pub whole_if : Found → Taking
-whole_if Unnamed = Faulty
-whole_if (Named i) = Whole i
+abbrev pub whole_if : Option Item → Taking
+whole_if None = Faulty
+whole_if (Some i) = Whole i
 
 abbrev pub long_item : ℕ → ℕ → ℕ → Taking
 long_item kind upper b = whole_if (item_from kind (upper * 256 + b))

@@ -1,39 +1,39 @@
 // The end notice to a reader (definition, Scripts, The reader).
 ghost use Rattle.std.specs.Prelude.{◌≡◌};
-ghost use Rattle.vdp_reader.specs.End.{ended as ended_as, end_notice};
+ghost use Rattle.vdp_reader.specs.End.{end_answer_of, ended, end_notice};
 
 use crate::reader::{Reader, answers, goes_on, stopped};
-use vdp_state::answer::{BAD_SCRIPT, DONE};
+use crate::stage::Stage;
+use vdp_state::answer::Refusal;
 
-// The number, and the reader that is left.
-#[repr(C)]
+// What the end notice answers, and the reader that is left.
 #[derive(Clone, Copy)]
-pub struct EndAnswer {
-    pub number: u8,
+pub struct Ended {
+    pub answer: Result<(), Refusal>,
     pub reader: Reader,
 }
 
 // The reader after the end notice.
-fn ended(reader: Reader) -> Reader
-    ensures { result ≡ ended_as reader }
+fn noticed(reader: Reader) -> Reader
+    ensures { result ≡ ended reader }
 {
     if !goes_on(reader) {
         return reader;
     }
-    if reader.stage == 1 {
-        stopped(DONE)
+    if reader.stage == Stage::Between as u8 {
+        stopped(Ok(()))
     } else {
-        stopped(BAD_SCRIPT)
+        stopped(Err(Refusal::BadScript))
     }
 }
 
 // Tells a reader that no more bytes come.
-pub fn end_notice(reader: Reader) -> EndAnswer
-    ensures { result ≡ end_notice reader }
+pub fn end_notice(reader: Reader) -> Ended
+    ensures { end_answer_of result ≡ end_notice reader }
 {
-    let left = ended(reader);
-    EndAnswer {
-        number: answers(left),
+    let left = noticed(reader);
+    Ended {
+        answer: answers(left),
         reader: left,
     }
 }

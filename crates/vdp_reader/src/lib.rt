@@ -4,4 +4,5 @@
 pub mod deliver;
 pub mod end;
 pub mod reader;
+pub mod stage;
 pub mod take;

@@ -1,10 +1,15 @@
 // What a reader keeps between deliveries (definition, Scripts, The reader).
 ghost use Rattle.std.specs.Prelude.{◌≡◌};
-ghost use Rattle.vdp_reader.specs.Reader.{has_content, may_answer, started as started_anew, stopped as stopped_with, in_range, goes_on, answers as answers_of};
+ghost use Rattle.vdp_state.specs.Answer.{number_in};
+ghost use Rattle.vdp_reader.specs.Reader.{has_content, may_answer, at_stage as in_stage, started as started_anew, stopped as stopped_with, in_range, goes_on, answers as answers_of};
+ghost use Rattle.vdp_reader.specs.Stage.{stage_number};
 
-use vdp_state::answer::BAD_STATE;
+use crate::stage::Stage;
+use vdp_script::item::{Item, item_from};
+use vdp_state::answer::{DONE, Refusal, number_in};
 
-// What has come of the script, and what is kept of an unfinished item; stopped, the number that it answers.
+// The number of a stage, what is kept of an unfinished item, and, stopped, the number that it answers. All are numbers,
+// since a reader that C lends may have some that there are not, and is then refused.
 #[repr(C)]
 #[derive(Clone, Copy)]
 pub struct Reader {
@@ -14,35 +19,41 @@ pub struct Reader {
     pub number: u8,
 }
 
-pub(crate) const STOPPED: u8 = 7;
-
 // Whether items of a kind have a content.
 pub(crate) fn has_content(kind: u8) -> bool
     ensures { result ≡ has_content kind }
 {
-    (kind == 1) | (kind == 2) | (kind == 5) | (kind == 6)
+    matches!(
+        item_from(kind, 0),
+        Some(Item::ControlWord(_) | Item::DataWord(_) | Item::Run(_) | Item::Line(_))
+    )
+}
+
+// A reader in a stage that keeps nothing else.
+pub(crate) fn at_stage(stage: Stage) -> Reader
+    ensures { result ≡ in_stage (stage_number stage) }
+{
+    Reader {
+        stage: stage as u8,
+        kind: 0,
+        upper: 0,
+        number: DONE,
+    }
 }
 
 // A reader that is started anew.
 pub fn started() -> Reader
     ensures { result ≡ started_anew }
 {
-    Reader {
-        stage: 0,
-        kind: 0,
-        upper: 0,
-        number: 0,
-    }
+    at_stage(Stage::Anew)
 }
 
-pub(crate) fn stopped(number: u8) -> Reader
-    ensures { result ≡ stopped_with number }
+pub(crate) fn stopped(answer: Result<(), Refusal>) -> Reader
+    ensures { result ≡ stopped_with (number_in answer) }
 {
     Reader {
-        stage: STOPPED,
-        kind: 0,
-        upper: 0,
-        number,
+        number: number_in(&answer),
+        ..at_stage(Stage::Stopped)
     }
 }
 
@@ -50,7 +61,7 @@ pub(crate) fn stopped(number: u8) -> Reader
 fn may_answer(number: u8) -> bool
     ensures { result ≡ may_answer number }
 {
-    (number <= 12) & (number != 9)
+    (number == DONE) | Refusal::of(number).is_some()
 }
 
 // Whether a reader is in a row of the table of stages.
@@ -59,27 +70,33 @@ pub fn in_range(reader: Reader) -> bool
     ensures { result ≡ in_range reader }
 {
     let bare = (reader.kind == 0) & (reader.upper == 0);
-    let going = reader.number == 0;
-    ((reader.stage <= 4) & bare & going)
-        | ((reader.stage == 5) & has_content(reader.kind) & (reader.upper == 0) & going)
-        | ((reader.stage == 6) & has_content(reader.kind) & going)
-        | ((reader.stage == STOPPED) & bare & may_answer(reader.number))
+    let going = reader.number == DONE;
+    match Stage::of(reader.stage) {
+        None => false,
+        Some(Stage::AtUpper) => has_content(reader.kind) & (reader.upper == 0) & going,
+        Some(Stage::AtLower) => has_content(reader.kind) & going,
+        Some(Stage::Stopped) => bare & may_answer(reader.number),
+        Some(_) => bare & going,
+    }
 }
 
 // Whether a reader takes bytes.
 pub(crate) fn goes_on(reader: Reader) -> bool
     ensures { result ≡ goes_on reader }
 {
-    in_range(reader) & (reader.stage != STOPPED)
+    in_range(reader) & (reader.stage != Stage::Stopped as u8)
 }
 
 // What a call answers that leaves this reader.
-pub(crate) fn answers(reader: Reader) -> u8
-    ensures { result ≡ answers_of reader }
+#[tactic(auto, using(crate::proofs::Readers::answers_zero))]
+pub(crate) fn answers(reader: Reader) -> Result<(), Refusal>
+    ensures { number_in result ≡ answers_of reader }
 {
-    if in_range(reader) {
-        reader.number
-    } else {
-        BAD_STATE
+    if !in_range(reader) {
+        return Err(Refusal::BadState);
+    }
+    match Refusal::of(reader.number) {
+        None => Ok(()),
+        Some(refusal) => Err(refusal),
     }
 }

@@ -1,11 +1,12 @@
 // What a byte does in each stage of a reader (definition, Scripts, The reader).
 ghost use Rattle.std.specs.Prelude.{◌≡◌};
-ghost use Rattle.vdp_reader.specs.Reader.{at_stage};
+ghost use Rattle.vdp_reader.specs.Stage.{stage_number};
 ghost use Rattle.vdp_reader.specs.Take.{kept_if, length_taken, short_item, kind_taken, long_item, takes};
 
-use crate::reader::{Reader, has_content};
+use crate::reader::{Reader, at_stage, has_content};
+use crate::stage::Stage;
 use vdp_script::form::VERSION;
-use vdp_script::item::{Found, Item, item_from};
+use vdp_script::item::{Item, item_from};
 use vdp_state::cell::joined;
 
 // What a byte leads to.
@@ -16,21 +17,9 @@ pub enum Taking {
     Faulty,
 }
 
-// A reader in a stage that keeps nothing else.
-pub(crate) fn at_stage(stage: u8) -> Reader
-    ensures { result ≡ at_stage stage }
-{
-    Reader {
-        stage,
-        kind: 0,
-        upper: 0,
-        number: 0,
-    }
-}
-
 // The only byte that there can be leads to a stage.
-fn kept_if(right: bool, stage: u8) -> Taking
-    ensures { result ≡ kept_if right stage }
+fn kept_if(right: bool, stage: Stage) -> Taking
+    ensures { result ≡ kept_if right (stage_number stage) }
 {
     if right {
         Taking::Kept(at_stage(stage))
@@ -43,10 +32,10 @@ fn kept_if(right: bool, stage: u8) -> Taking
 fn take_length(byte: u8) -> Taking
     ensures { result ≡ length_taken byte }
 {
-    if byte == 1 {
-        Taking::Kept(at_stage(3))
-    } else {
-        kept_if(byte == 3, 4)
+    match byte {
+        1 => Taking::Kept(at_stage(Stage::AtShort)),
+        3 => Taking::Kept(at_stage(Stage::AtLong)),
+        _ => Taking::Faulty,
     }
 }
 
@@ -54,10 +43,8 @@ fn take_length(byte: u8) -> Taking
 fn short_item(kind: u8) -> Taking
     ensures { result ≡ short_item kind }
 {
-    match kind {
-        3 => Taking::Whole(Item::DataRead),
-        4 => Taking::Whole(Item::StatusRead),
-        7 => Taking::Whole(Item::NewFrame),
+    match item_from(kind, 0) {
+        Some(item @ (Item::DataRead | Item::StatusRead | Item::NewFrame)) => Taking::Whole(item),
         _ => Taking::Faulty,
     }
 }
@@ -66,28 +53,23 @@ fn short_item(kind: u8) -> Taking
 fn take_kind(kind: u8) -> Taking
     ensures { result ≡ kind_taken kind }
 {
-    let kept = Reader {
-        stage: 5,
-        kind,
-        upper: 0,
-        number: 0,
-    };
-    if has_content(kind) {
-        Taking::Kept(kept)
-    } else {
-        Taking::Faulty
+    if !has_content(kind) {
+        return Taking::Faulty;
     }
+    Taking::Kept(Reader {
+        kind,
+        ..at_stage(Stage::AtUpper)
+    })
 }
 
 // The last byte of a content.
 fn long_item(kind: u8, upper: u8, byte: u8) -> Taking
     ensures { result ≡ long_item kind upper byte }
 {
-    let found = item_from(kind, joined(upper, byte));
-    let Found::Whole(item) = found else {
-        return Taking::Faulty;
-    };
-    Taking::Whole(item)
+    match item_from(kind, joined(upper, byte)) {
+        Some(item) => Taking::Whole(item),
+        None => Taking::Faulty,
+    }
 }
 
 // What a byte does to a reader that takes it.
@@ -95,18 +77,16 @@ fn long_item(kind: u8, upper: u8, byte: u8) -> Taking
 pub(crate) fn take_byte(reader: Reader, byte: u8) -> Taking
     ensures { result ≡ takes reader byte }
 {
-    let stage = reader.stage;
-    match stage {
-        0 => kept_if(byte == VERSION, 1),
-        1 => kept_if(byte == 0, 2),
-        2 => take_length(byte),
-        3 => short_item(byte),
-        4 => take_kind(byte),
-        5 => Taking::Kept(Reader {
-            stage: 6,
+    match Stage::of(reader.stage) {
+        Some(Stage::Anew) => kept_if(byte == VERSION, Stage::Between),
+        Some(Stage::Between) => kept_if(byte == 0, Stage::InLength),
+        Some(Stage::InLength) => take_length(byte),
+        Some(Stage::AtShort) => short_item(byte),
+        Some(Stage::AtLong) => take_kind(byte),
+        Some(Stage::AtUpper) => Taking::Kept(Reader {
             kind: reader.kind,
             upper: byte,
-            number: 0,
+            ..at_stage(Stage::AtLower)
         }),
         _ => long_item(reader.kind, reader.upper, byte),
     }

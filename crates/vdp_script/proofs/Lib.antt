@@ -1,10 +1,8 @@
 pub mod Bench
-pub mod Calls
 pub mod Forms
 pub mod Items
 pub mod Judges
 pub mod Pending
-pub mod Registers
 pub mod Runs
 pub mod Whole
 pub mod Writes

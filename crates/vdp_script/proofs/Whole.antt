@@ -12,13 +12,12 @@ use borrow.Author.Tests.{eqb-true}
 use lib.Dec.{eqb}
 use lib.ListN.{length, get_or, take, drop, set, length-append, length-drop, take-append-drop}
 use lib.Seq.{drop-append_seam, get_or-drop, sets, length-sets}
+use Rattle.std.specs.Prelude.{Option, Some}
 use Rattle.vdp_state.specs.Cell.{word_at}
 use Rattle.vdp_state.specs.Range.{AllBytes}
 use Rattle.vdp_state.proofs.Bools.{by_cond}
 use Rattle.vdp_script.specs.declared.item.Item.{Item}
 use Rattle.vdp_script.specs.declared.item.Item.TheVariants.{ControlWord, DataWord, DataRead, StatusRead, Run, Line, NewFrame}
-use Rattle.vdp_script.specs.declared.item.Found.{Found}
-use Rattle.vdp_script.specs.declared.item.Found.TheVariants.{Whole}
 use Rattle.vdp_script.specs.Form.{Form, form, before, items_from, version, form_of}
 use Rattle.vdp_script.specs.Item.{word, kind_of, content_of, length_of, item_bytes, byte_after, item_from, item_of}
 use Rattle.vdp_script.specs.Judge.{judged_as}
@@ -32,25 +31,25 @@ use Rattle.vdp_script.proofs.Writes.{room}
 
 -- ---- what was written is read
 -- the kind and the content of an item are that item's
-named_back : (i : Item) (rest : List ℕ) → Whole i ≡ item_from (kind_of i) (word_at (content_of i ++ rest) 0)
-named_back (ControlWord w) rest = ap (λ (n : ℕ). Whole (ControlWord n)) (sym (word_back w))
-named_back (DataWord w) rest = ap (λ (n : ℕ). Whole (DataWord n)) (sym (word_back w))
+named_back : (i : Item) (rest : List ℕ) → Some i ≡ item_from (kind_of i) (word_at (content_of i ++ rest) 0)
+named_back (ControlWord w) rest = ap (λ (n : ℕ). Some (ControlWord n)) (sym (word_back w))
+named_back (DataWord w) rest = ap (λ (n : ℕ). Some (DataWord n)) (sym (word_back w))
 named_back DataRead rest = refl
 named_back StatusRead rest = refl
-named_back (Run n) rest = ap (λ (n : ℕ). Whole (Run n)) (sym (word_back n))
-named_back (Line n) rest = ap (λ (n : ℕ). Whole (Line n)) (sym (word_back n))
+named_back (Run n) rest = ap (λ (n : ℕ). Some (Run n)) (sym (word_back n))
+named_back (Line n) rest = ap (λ (n : ℕ). Some (Line n)) (sym (word_back n))
 named_back NewFrame rest = refl
 
-item_back : (i : Item) (rest : List ℕ) → item_of (item_bytes i ++ rest) ≡ Whole i
+item_back : (i : Item) (rest : List ℕ) → item_of (item_bytes i ++ rest) ≡ Some i
 item_back i rest =
-    sym (whole (item_bytes i ++ rest) (Whole i) (named_back i rest) i refl (omega (arith, word_back (length_of i), size i)) (omega (arith, length-append (item_bytes i) rest)))
+    sym (whole (item_bytes i ++ rest) (Some i) (named_back i rest) i refl (omega (arith, word_back (length_of i), size i)) (omega (arith, length-append (item_bytes i) rest)))
 
 items_back : (items : List Item) → items_from 0 (items_written items) ≡ form items false
 items_back [] = refl
 items_back (i ∷ items) =
     at_whole (item_bytes i ++ items_written items) i (item_back i (items_written items))
-    ∙ ap (λ (l : List ℕ). before (Whole i) (items_from 0 l)) (drop-append_seam (item_bytes i) (items_written items))
-    ∙ ap (before (Whole i)) (items_back items)
+    ∙ ap (λ (l : List ℕ). before (Some i) (items_from 0 l)) (drop-append_seam (item_bytes i) (items_written items))
+    ∙ ap (before (Some i)) (items_back items)
 
 pub reads_back : ReadsBack
 reads_back items = right_version (script_of items) refl ∙ items_back items
@@ -70,10 +69,10 @@ record Named (i : Item) (k w : ℕ) : Type 0 where
 
 module _ (kind w : ℕ) (i : Item) where
   -- the item that was found is this one
-  abbrev Is : Found → Type 0
-  Is f = f ≡ Whole i → Named i kind w
+  abbrev Is : Option Item → Type 0
+  Is f = f ≡ Some i → Named i kind w
 
-  is : (j : Item) → Named j kind w → Is (Whole j)
+  is : (j : Item) → Named j kind w → Is (Some j)
   is j n e = let same : j ≡ i = cc in rw same at n
 
   named : Is (item_from kind w)
@@ -118,9 +117,9 @@ items_written_lem zero (b ∷ bytes) h all e = absurd (let bad : ⊥ = omega ari
 items_written_lem (suc n) [] h all e = refl
 items_written_lem (suc n) (b ∷ bytes) h all e =
     let l : List ℕ = b ∷ bytes in
-    let f : (i : Item) × (item_of l ≡ Whole i) = there l (omega arith) e in
+    let f : (i : Item) × (item_of l ≡ Some i) = there l (omega arith) e in
     let i : Item = f.0 in
-    let here : items_from 0 l ≡ before (Whole i) (behind i l) = at_whole l i f.1 in
+    let here : items_from 0 l ≡ before (Some i) (behind i l) = at_whole l i f.1 in
     let rest : List ℕ = drop (length (item_bytes i)) l in
     let more : items_written (items_from 0 rest).items ≡ rest =
     items_written_lem n rest (omega (arith, length-drop (length (item_bytes i)) l, (few i).0)) (λ j. rw get_or-drop (all (length (item_bytes i) + j)))

@@ -1,55 +1,49 @@
--- Laws of an item's bytes stored one by one:
---     three, five       so many stores one after the other are the store of so many bytes
---     put_three, put_five       the stores of an item without a content, and of one with a content
---     no_room_lem, room             what writing leaves without room, and with it
-use Prim.Native.Nat.{ℕ, suc, ◌+◌, ◌-◌, ◌/◌, ◌%◌, ◌<◌, ◌≤◌}
-use mathlib.Core.Path.{◌≡◌, sym, ap, ap₂, ◌∙◌}
-use mathlib.Core.List.{List, [], ◌∷◌}
+-- Laws of an item's bytes stored:
+--     part_stored           bytes stored as a part of a script are stored one after the other
+--     item_taken            the bytes that are stored are the item's
+--     room                  what writing leaves where there is room
+use Prim.Native.Nat.{ℕ, ◌+◌, ◌-◌, ◌/◌, ◌%◌, ◌<◌, ◌≤◌}
+use mathlib.Core.Path.{◌≡◌, refl, sym, ap, ap₂, subst, ◌∙◌}
+use mathlib.Core.List.{List, [], ◌∷◌, ◌++◌, append_assoc}
 use native.Mathlib.Omega.{arith}
-use borrow.Author.Tests.{le-leb, lt-leb}
-use lib.ListN.{length, set}
-use lib.Seq.{sets}
-use Rattle.vdp_state.specs.Cell.{word_at}
+use borrow.Author.Tests.{le-leb}
+use borrow.Rule.Slice.PartMut.{put_mid}
+use lib.ListN.{length, get_or, take, drop}
+use lib.Seq.{sets, sets-eq}
+use Rattle.std.specs.Prelude.{Option, Some, None, unwrap_or}
+use Rattle.std.proofs.lemmas.List.Edits.{paste_all}
+use Rattle.std.proofs.lemmas.Slice.{put_mid-paste}
 use Rattle.vdp_script.specs.declared.item.Item.{Item}
-use Rattle.vdp_script.specs.Item.{kind_of, content_of, item_bytes, byte_after}
+use Rattle.vdp_script.specs.Item.{word, kind_of, content_of, content_bytes, item_bytes, byte_after}
 use Rattle.vdp_script.specs.Write.{write_outcome, written, write_item}
-use Rattle.vdp_script.proofs.Items.{with_content, without}
 
-module _ (s : List ℕ) (at : ℕ) where
-  next : at + 1 ≡ suc at
-  next = omega arith
+pub part_stored : (s part bytes : List ℕ) (at n : ℕ) → part ≡ bytes → n ≡ length bytes → at + length bytes ≤ length s → put_mid at n s part ≡ sets s at bytes
+part_stored s part bytes at n p k h =
+    put_mid-paste at n s part bytes n p refl k
+    ∙ paste_all s at bytes n k
+    ∙ ap (λ (m : ℕ). take at s ++ (bytes ++ drop (at + m) s)) k
+    ∙ sym (sets-eq bytes s at h ∙ append_assoc (take at s) bytes (drop (at + length bytes) s))
 
-  next_two : at + 2 ≡ suc (suc at)
-  next_two = omega arith
+module _ (kind w : ℕ) where
+  -- so many bytes as an item with this content has
+  abbrev taken : List ℕ → List ℕ
+  taken content = take (3 + length content) (0 ∷ (1 + length content) ∷ kind ∷ (w / 256 % 256) ∷ (w % 256) ∷ [])
 
-  abbrev pub three : ℕ → ℕ → ℕ → List ℕ
-  three a b c = set (set (set s at a) (at + 1) b) (at + 2) c
+  content_taken : (o : Option ℕ) → w ≡ unwrap_or o 0 → w < 65536 → taken (content_bytes o) ≡ word (1 + length (content_bytes o)) ++ (kind ∷ content_bytes o)
+  content_taken None e h = refl
+  content_taken (Some v) e h = ap₂ (λ (upper lower : ℕ). 0 ∷ 3 ∷ kind ∷ upper ∷ lower ∷ []) (omega arith) (omega arith)
 
-  abbrev pub five : ℕ → ℕ → ℕ → ℕ → ℕ → List ℕ
-  five a b c d e = set (set (three a b c) (at + 3) d) (at + 4) e
-
-  three_sets : (a b c : ℕ) → three a b c ≡ sets s at (a ∷ b ∷ c ∷ [])
-  three_sets a b c = ap₂ (λ (i j : ℕ). set (set (set s at a) i b) j c) next next_two
-
-  five_sets : (a b c d e : ℕ) → five a b c d e ≡ sets s at (a ∷ b ∷ c ∷ d ∷ e ∷ [])
-  five_sets a b c d e =
-      ap (λ (l : List ℕ). set (set l (at + 3) d) (at + 4) e) (three_sets a b c)
-      ∙ ap₂ (λ (i j : ℕ). set (set (sets s at (a ∷ b ∷ c ∷ [])) i d) j e) (let n : at + 3 ≡ suc (suc (suc at)) = omega arith in n) (let n : at + 4 ≡ suc (suc (suc (suc at))) = omega arith in n)
-
-  module _ (i : Item) where
-    pub put_three : length (item_bytes i) ≤ 3 → three 0 (length (item_bytes i) - 2) (kind_of i) ≡ sets s at (item_bytes i)
-    put_three h = three_sets 0 (length (item_bytes i) - 2) (kind_of i) ∙ sym (ap (sets s at) (without i h))
-
-    pub put_five : 3 < length (item_bytes i)
-        → five 0 (length (item_bytes i) - 2) (kind_of i) (word_at (content_of i) 0 / 256) (word_at (content_of i) 0 % 256) ≡ sets s at (item_bytes i)
-    put_five h =
-        five_sets 0 (length (item_bytes i) - 2) (kind_of i) (word_at (content_of i) 0 / 256) (word_at (content_of i) 0 % 256)
-        ∙ sym (ap (sets s at) (with_content i h))
+pub item_taken : (i : Item) (o : Option ℕ) (size kind w : ℕ) (pair : List ℕ) → content_bytes o ≡ content_of i → size ≡ length (item_bytes i) → kind ≡ kind_of i
+    → w ≡ unwrap_or o 0 → w < 65536 → pair ≡ (w / 256 % 256) ∷ (w % 256) ∷ []
+    → take size (0 ∷ (size - 2) ∷ kind ∷ get_or pair 0 0 ∷ get_or pair 1 0 ∷ []) ≡ item_bytes i
+item_taken i o size kind w pair content n k e h p =
+    let of_content : taken (kind_of i) w (content_of i) ≡ item_bytes i =
+    subst (λ (l : List ℕ). taken (kind_of i) w l ≡ word (1 + length l) ++ (kind_of i ∷ l)) content (content_taken (kind_of i) w o e h) in
+    let low : size - 2 ≡ 1 + length (content_of i) = omega (arith, n) in
+    let all : size ≡ 3 + length (content_of i) = omega (arith, n) in
+    rw (low, all, k, p) of_content
 
 module _ (s : List ℕ) (at : ℕ) (i : Item) where
-  pub no_room_lem : length s < byte_after at i → write_outcome (written 2 0) s ≡ write_item s at i
-  no_room_lem h = simp (lt-leb (byte_after at i) (length s) h)
-
   pub room : (n : ℕ) (l : List ℕ) → byte_after at i ≤ length s → n ≡ length (item_bytes i) → l ≡ sets s at (item_bytes i) → write_outcome (written 0 (at + n)) l ≡ write_item s at i
   room n l h e stored =
       ap₂ (λ (m : ℕ) (x : List ℕ). write_outcome (written 0 (at + m)) x) e stored ∙ (simp (le-leb (byte_after at i) (length s) h))

@@ -1,8 +1,7 @@
 -- A script as the program `script` judges it: definition, Scripts, The program.
 use Rattle.std.specs.Prelude.{ℕ, false, cond, not, List, ◌∷◌, leb, length}
 use Rattle.vdp_state.specs.Answer.{Test, gives, first}
-use Rattle.vdp_script.specs.declared.form.Judged.{Judged}
-use Rattle.vdp_script.specs.Form.{form_of}
+use Rattle.vdp_script.specs.Form.{Judged, form_of}
 use Rattle.vdp_script.specs.Judge.{judged_tests, judged}
 
 -- "of at most 16,384 bytes"

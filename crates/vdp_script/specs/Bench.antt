@@ -4,11 +4,11 @@ use Rattle.vdp_state.specs.declared.state.State.{State}
 use Rattle.vdp_state.specs.Fresh.{fresh}
 use Rattle.vdp_state.specs.State.{chip, with_control, with_port, with_dma}
 use Rattle.vdp_state.specs.Worked.{Case, gives}
-use Rattle.vdp_script.specs.declared.form.Judged.{Judged}
 use Rattle.vdp_script.specs.declared.item.Item.{Item}
 use Rattle.vdp_script.specs.declared.item.Item.TheVariants.{ControlWord, DataWord, DataRead, StatusRead, Run, Line, NewFrame}
 use Rattle.vdp_script.specs.Admitted.{admitted}
 use Rattle.vdp_script.specs.Call.{script_item}
+use Rattle.vdp_script.specs.Form.{Judged}
 use Rattle.vdp_script.specs.Judge.{judged}
 use Rattle.vdp_script.specs.Run.{ScriptOutcome, run_script}
 use Rattle.vdp_script.specs.Whole.{script_of}

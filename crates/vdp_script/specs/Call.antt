@@ -1,6 +1,8 @@
 -- The call of an item: definition, Scripts, Running.
-use Rattle.std.specs.Prelude.{ℕ, cond, List, eqb, drop}
-use Rattle.vdp_state.specs.declared.answer.Answer.{Answer}
+use Rattle.std.specs.Prelude.{ℕ, cond, List, eqb, drop, Option, Some, None, Result, Ok, Err}
+use Rattle.vdp_state.specs.declared.answer.Refusal.{Refusal}
+use Rattle.vdp_state.specs.declared.state.State.{State}
+use Rattle.vdp_state.specs.Answer.{Answer, number}
 use Rattle.vdp_state.specs.State.{Chip}
 use Rattle.vdp_ports.specs.Control.{control_write}
 use Rattle.vdp_ports.specs.Data.{data_write, data_read}
@@ -8,9 +10,7 @@ use Rattle.vdp_ports.specs.Frame.{new_frame}
 use Rattle.vdp_ports.specs.Status.{status_read}
 use Rattle.vdp_dma.specs.Run.{run}
 use Rattle.vdp_line.specs.Line.{line}
-use Rattle.vdp_script.specs.declared.call.ItemAnswer.{ItemAnswer}
-use Rattle.vdp_script.specs.declared.item.Found.{Found}
-use Rattle.vdp_script.specs.declared.item.Found.TheVariants.{Whole, Faulty}
+use Rattle.vdp_script.specs.declared.call.ItemDone.{ItemDone}
 use Rattle.vdp_script.specs.declared.item.Item.{Item}
 use Rattle.vdp_script.specs.declared.item.Item.TheVariants.{ControlWord, DataWord, DataRead, StatusRead, Run, Line, NewFrame}
 use Rattle.vdp_script.specs.Item.{byte_after, item_of}
@@ -35,6 +35,18 @@ call_item (Run budget) cartridge ram c pixels =
 call_item (Line n) cartridge ram c pixels = item_outcome (line c n pixels).answer c.vram (line c n pixels).pixels
 call_item NewFrame cartridge ram c pixels = item_outcome (new_frame c.state) c.vram pixels
 
+-- the answer of an item's call, with the byte where the script goes on
+pub record ItemAnswer : Type 0 where
+  pub number : ℕ
+  pub result : ℕ
+  pub next : ℕ
+  pub state : State
+
+-- what the item at a byte answers from a state, by what it gives; "Refused, the next byte is the one that was given."
+abbrev pub item_answer_of : State → ℕ → Result ItemDone Refusal → ItemAnswer
+item_answer_of s at (Ok d) = record { number = 0; result = d.result; next = d.next; state = d.state }
+item_answer_of s at (Err refusal) = record { number = number refusal; result = 0; next = at; state = s }
+
 -- what a script item leaves
 pub record ScriptItemOutcome : Type 0 where
   pub answer : ItemAnswer
@@ -54,10 +66,10 @@ called o at after =
 
 -- "if a whole item that is not faulty begins at a byte of the script, its call is made and answers"; "If none does
 -- [..], the answer is 11."
-abbrev pub call_found : Found → ℕ → List ℕ → List ℕ → Chip → List ℕ → ScriptItemOutcome
-call_found Faulty at cartridge ram c pixels =
+abbrev pub call_found : Option Item → ℕ → List ℕ → List ℕ → Chip → List ℕ → ScriptItemOutcome
+call_found None at cartridge ram c pixels =
     script_item_outcome (record { number = 11; result = 0; next = at; state = c.state }) c.vram pixels
-call_found (Whole i) at cartridge ram c pixels = called (call_item i cartridge ram c pixels) at (byte_after at i)
+call_found (Some i) at cartridge ram c pixels = called (call_item i cartridge ram c pixels) at (byte_after at i)
 
 abbrev pub script_item : List ℕ → ℕ → List ℕ → List ℕ → Chip → List ℕ → ScriptItemOutcome
 script_item script at cartridge ram c pixels = call_found (item_of (drop at script)) at cartridge ram c pixels

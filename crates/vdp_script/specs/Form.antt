@@ -1,10 +1,8 @@
 -- The form of a script: definition, Scripts, The form.
-use Rattle.std.specs.Prelude.{ℕ, zero, suc, ◌+◌, Bool, true, false, cond, List, [], ◌∷◌, eqb, length, get_or, drop}
-use Rattle.vdp_state.specs.Answer.{Test, gives, first}
+use Rattle.std.specs.Prelude.{ℕ, zero, suc, ◌+◌, Bool, true, false, cond, List, [], ◌∷◌, eqb, length, get_or, drop, Option, Some, None, Result, Ok, Err}
+use Rattle.vdp_state.specs.Answer.{Test, gives, first, number}
 use Rattle.vdp_script.specs.declared.item.Item.{Item}
-use Rattle.vdp_script.specs.declared.item.Found.{Found}
-use Rattle.vdp_script.specs.declared.item.Found.TheVariants.{Whole, Faulty}
-use Rattle.vdp_script.specs.declared.form.Judged.{Judged}
+use Rattle.vdp_script.specs.declared.form.Fault.{Fault}
 use Rattle.vdp_script.specs.Item.{length_of, item_of}
 
 -- what a script is: its items up to the first that is faulty, and whether there is a faulty one
@@ -16,14 +14,14 @@ abbrev pub form : List Item → Bool → Form
 form items faulty = record { items = items; faulty = faulty }
 
 -- what was found before the rest; "Where an item is faulty, what follows it is not looked at."
-abbrev pub before : Found → Form → Form
-before Faulty rest = form [] true
-before (Whole i) rest = form (i ∷ rest.items) rest.faulty
+abbrev pub before : Option Item → Form → Form
+before None rest = form [] true
+before (Some i) rest = form (i ∷ rest.items) rest.faulty
 
 -- the bytes that an item has beside its first
-abbrev pub others : Found → ℕ
-others Faulty = 0
-others (Whole i) = 1 + length_of i
+abbrev pub others : Option Item → ℕ
+others None = 0
+others (Some i) = 1 + length_of i
 
 -- "Its items follow, one after the other, up to its last byte"; the bytes passed are those of an item already found
 abbrev pub items_from : ℕ → List ℕ → Form
@@ -38,6 +36,19 @@ version = 1
 -- a script; "if the version is wrong or missing" no item is found
 unfoldable pub form_of : List ℕ → Form
 form_of script = cond (eqb (get_or script 0 0) version) (items_from 0 (drop 1 script)) (form [] true)
+
+-- a judgement: the number, and the place of the item that is refused, or how many items there are
+pub record Judged : Type 0 where
+  pub number : ℕ
+  pub place : ℕ
+
+abbrev pub judgement : ℕ → ℕ → Judged
+judgement number place = record { number = number; place = place }
+
+-- what a script is judged as, by how many items it has or what is at fault
+abbrev pub judged_of : Result ℕ Fault → Judged
+judged_of (Ok items) = judgement 0 items
+judged_of (Err fault) = judgement (number fault.refusal) fault.place
 
 -- 11: "the script is not well formed"
 abbrev pub bad_script : Form → Test

@@ -1,10 +1,8 @@
 -- The items of a script: definition, Scripts, The form.
-use Rattle.std.specs.Prelude.{ℕ, ◌+◌, ◌/◌, ◌%◌, cond, ◌&&◌, List, [], ◌∷◌, ◌++◌, eqb, leb, length, get_or}
+use Rattle.std.specs.Prelude.{ℕ, ◌+◌, ◌/◌, ◌%◌, cond, ◌&&◌, List, [], ◌∷◌, ◌++◌, eqb, leb, length, get_or, Option, Some, None}
 use Rattle.vdp_state.specs.Cell.{word_at}
 use Rattle.vdp_script.specs.declared.item.Item.{Item}
 use Rattle.vdp_script.specs.declared.item.Item.TheVariants.{ControlWord, DataWord, DataRead, StatusRead, Run, Line, NewFrame}
-use Rattle.vdp_script.specs.declared.item.Found.{Found}
-use Rattle.vdp_script.specs.declared.item.Found.TheVariants.{Whole, Faulty}
 
 -- "Numbers of two bytes have their upper byte first."
 abbrev pub word : ℕ → List ℕ
@@ -29,6 +27,11 @@ content_of (Run budget) = word budget
 content_of (Line n) = word n
 content_of NewFrame = []
 
+-- the bytes of a content, by its number, if there is one
+abbrev pub content_bytes : Option ℕ → List ℕ
+content_bytes (Some w) = word w
+content_bytes None = []
+
 -- "it is 1 plus the size of the content"
 abbrev pub length_of : Item → ℕ
 length_of i = 1 + length (content_of i)
@@ -42,22 +45,22 @@ abbrev pub byte_after : ℕ → Item → ℕ
 byte_after at i = at + length (item_bytes i)
 
 -- the item of a kind with a content; a kind that "is not in the table" has none
-abbrev pub item_from : ℕ → ℕ → Found
+abbrev pub item_from : ℕ → ℕ → Option Item
 item_from kind w =
-    cond (eqb kind 1) (Whole (ControlWord w))
-    (cond (eqb kind 2) (Whole (DataWord w))
-    (cond (eqb kind 3) (Whole DataRead)
-    (cond (eqb kind 4) (Whole StatusRead)
-    (cond (eqb kind 5) (Whole (Run w))
-    (cond (eqb kind 6) (Whole (Line w))
-    (cond (eqb kind 7) (Whole NewFrame) Faulty))))))
+    cond (eqb kind 1) (Some (ControlWord w))
+    (cond (eqb kind 2) (Some (DataWord w))
+    (cond (eqb kind 3) (Some DataRead)
+    (cond (eqb kind 4) (Some StatusRead)
+    (cond (eqb kind 5) (Some (Run w))
+    (cond (eqb kind 6) (Some (Line w))
+    (cond (eqb kind 7) (Some NewFrame) None))))))
 
 -- faulty too: "if its length is not that of its kind, or if it is cut: the script ends before the item does"
-abbrev pub as_long : List ℕ → Found → Found
-as_long bytes Faulty = Faulty
-as_long bytes (Whole i) =
-    cond (eqb (word_at bytes 0) (length_of i) && leb (length (item_bytes i)) (length bytes)) (Whole i) Faulty
+abbrev pub as_long : List ℕ → Option Item → Option Item
+as_long bytes None = None
+as_long bytes (Some i) =
+    cond (eqb (word_at bytes 0) (length_of i) && leb (length (item_bytes i)) (length bytes)) (Some i) None
 
 -- the item that the bytes begin with: its length, its kind and its content
-unfoldable pub item_of : List ℕ → Found
+unfoldable pub item_of : List ℕ → Option Item
 item_of bytes = as_long bytes (item_from (get_or bytes 2 0) (word_at bytes 3))

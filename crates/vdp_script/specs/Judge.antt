@@ -1,8 +1,7 @@
 -- A script that is judged: definition, Scripts, Judging.
 use Rattle.std.specs.Prelude.{ℕ, Bool, cond, List, [], ◌∷◌, length}
 use Rattle.vdp_state.specs.Answer.{Test, first}
-use Rattle.vdp_script.specs.declared.form.Judged.{Judged}
-use Rattle.vdp_script.specs.Form.{Form, form_of, bad_script}
+use Rattle.vdp_script.specs.Form.{Judged, Form, form_of, bad_script}
 use Rattle.vdp_script.specs.Missing.{items_before, missing_register}
 
 -- 11, and then 12

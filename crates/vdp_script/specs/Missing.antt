@@ -6,7 +6,7 @@ use Rattle.vdp_ports.specs.declared.taken.Taken.TheVariants.{RegisterWrite, Firs
 use Rattle.vdp_ports.specs.Taken.{taken_as, pending_left, register_of, has_register}
 use Rattle.vdp_script.specs.declared.item.Item.{Item}
 use Rattle.vdp_script.specs.declared.item.Item.TheVariants.{ControlWord, DataWord, DataRead, StatusRead, Run, Line, NewFrame}
-use Rattle.vdp_script.specs.declared.form.Judged.{Judged}
+use Rattle.vdp_script.specs.Form.{Judged}
 
 -- "its word would be taken as a register write, and the register is one of those"; "A second half names no register,
 -- whatever its bits are."

@@ -2,20 +2,30 @@
 use Rattle.std.specs.Prelude.{ℕ, ◌+◌, cond, List, [], ◌∷◌, eqb}
 use Rattle.vdp_state.specs.declared.state.State.{State}
 use Rattle.vdp_state.specs.State.{Chip, chip}
-use Rattle.vdp_script.specs.declared.form.Judged.{Judged}
 use Rattle.vdp_script.specs.declared.item.Item.{Item}
 use Rattle.vdp_script.specs.declared.run.ScriptAnswer.{ScriptAnswer}
 use Rattle.vdp_script.specs.Call.{ItemOutcome, call_item}
-use Rattle.vdp_script.specs.Form.{Form, form_of}
+use Rattle.vdp_script.specs.Form.{Judged, judged_of, Form, form_of}
 use Rattle.vdp_script.specs.Judge.{judged_as}
+
+-- what a script that is run answers: the number, the place of the item that was refused or how many items there are, and
+-- the state
+pub record RunAnswer : Type 0 where
+  pub number : ℕ
+  pub place : ℕ
+  pub state : State
+
+-- by how it ended
+abbrev pub run_answer_of : ScriptAnswer → RunAnswer
+run_answer_of a = record { number = (judged_of a.ended).number; place = (judged_of a.ended).place; state = a.state }
 
 -- what a run script leaves: its answer, VRAM and the pixel buffer
 pub record ScriptOutcome : Type 0 where
-  pub answer : ScriptAnswer
+  pub answer : RunAnswer
   pub vram : List ℕ
   pub pixels : List ℕ
 
-abbrev pub script_outcome : ScriptAnswer → List ℕ → List ℕ → ScriptOutcome
+abbrev pub script_outcome : RunAnswer → List ℕ → List ℕ → ScriptOutcome
 script_outcome a vram pixels = record { answer = a; vram = vram; pixels = pixels }
 
 -- a script that ends with a number at a place

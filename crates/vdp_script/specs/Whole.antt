@@ -4,11 +4,10 @@ use Rattle.std.proofs.lemmas.List.Edits.{sets}
 use Rattle.vdp_state.specs.Range.{AllBytes}
 use Rattle.vdp_state.specs.State.{Chip}
 use Rattle.vdp_script.specs.declared.item.Item.{Item}
-use Rattle.vdp_script.specs.declared.run.ScriptAnswer.{ScriptAnswer}
 use Rattle.vdp_script.specs.Form.{form, form_of, version}
 use Rattle.vdp_script.specs.Item.{item_bytes}
 use Rattle.vdp_script.specs.Missing.{any_missing}
-use Rattle.vdp_script.specs.Run.{run_items, run_script}
+use Rattle.vdp_script.specs.Run.{RunAnswer, run_items, run_script}
 use Rattle.vdp_script.specs.Write.{WriteOutcome, write_outcome, written, write_item}
 
 -- "the version and the items [..], written one after the other"
@@ -55,7 +54,7 @@ RunsAsWritten =
 abbrev pub PendingAsCalled : Type 0
 PendingAsCalled =
     (items rest : List Item) (cartridge ram : List ℕ) (c : Chip) (pixels : List ℕ)
-    → let left : ScriptAnswer = (run_items items 0 cartridge ram c pixels).answer in
+    → let left : RunAnswer = (run_items items 0 cartridge ram c pixels).answer in
     let pending : Bool = c.state.control.port.pending in
     left.number ≡ 0
     → any_missing pending (items ++ rest) ≡ (any_missing pending items || any_missing left.state.control.port.pending rest)

@@ -1,12 +1,23 @@
 -- An item written into a buffer: definition, Scripts, Writing.
-use Rattle.std.specs.Prelude.{ℕ, cond, not, List, [], ◌∷◌, eqb, leb, length}
+use Rattle.std.specs.Prelude.{ℕ, cond, not, List, [], ◌∷◌, eqb, leb, length, Option, Some, None, Result, Ok, Err}
 use Rattle.std.proofs.lemmas.List.Edits.{sets}
-use Rattle.vdp_state.specs.Answer.{Test, gives, first}
+use Rattle.vdp_state.specs.declared.answer.Refusal.{Refusal}
+use Rattle.vdp_state.specs.Answer.{Test, gives, first, number}
 use Rattle.vdp_script.specs.declared.item.Item.{Item}
-use Rattle.vdp_script.specs.declared.item.Found.{Found}
-use Rattle.vdp_script.specs.declared.item.Found.TheVariants.{Whole, Faulty}
-use Rattle.vdp_script.specs.declared.write.Written.{Written}
 use Rattle.vdp_script.specs.Item.{item_bytes, byte_after, item_from}
+
+-- what writing an item answers: the number, and the byte after the item
+pub record Written : Type 0 where
+  pub number : ℕ
+  pub next : ℕ
+
+abbrev pub written : ℕ → ℕ → Written
+written number next = record { number = number; next = next }
+
+-- by what it gives; refused, "the result [is] 0"
+abbrev pub written_of : Result ℕ Refusal → Written
+written_of (Ok next) = written 0 next
+written_of (Err refusal) = written (number refusal) 0
 
 -- what writing leaves: its answer and the buffer
 pub record WriteOutcome : Type 0 where
@@ -15,9 +26,6 @@ pub record WriteOutcome : Type 0 where
 
 abbrev pub write_outcome : Written → List ℕ → WriteOutcome
 write_outcome w script = record { answer = w; script = script }
-
-abbrev pub written : ℕ → ℕ → Written
-written number next = record { number = number; next = next }
 
 -- 2: "an item that is to be written has no room"
 abbrev pub no_room : List ℕ → ℕ → Item → Test
@@ -35,9 +43,9 @@ write_item script at i =
 
 -- "A caller can also name the item by its kind and its content. A kind that is not in the table answers 11, with the
 -- result 0."
-abbrev pub write_found : Found → List ℕ → ℕ → WriteOutcome
-write_found Faulty script at = write_outcome (written 11 0) script
-write_found (Whole i) script at = write_item script at i
+abbrev pub write_found : Option Item → List ℕ → ℕ → WriteOutcome
+write_found None script at = write_outcome (written 11 0) script
+write_found (Some i) script at = write_item script at i
 
 abbrev pub write_kind : List ℕ → ℕ → ℕ → ℕ → WriteOutcome
 write_kind script at kind content = write_found (item_from kind content) script at

@@ -1,12 +1,12 @@
 // Items that name missing registers (definition, Scripts, Missing registers).
-ghost use Rattle.std.specs.Prelude.{◌≡◌, drop};
-ghost use Rattle.vdp_script.specs.Form.{items_from};
-ghost use Rattle.vdp_script.specs.Missing.{writes_missing, names_missing, pending_after, registers_judged};
+ghost use Rattle.std.specs.Prelude.{◌≡◌, false, drop, MatchResult};
+ghost use Rattle.vdp_script.specs.Form.{items_from, judged_of};
+ghost use Rattle.vdp_script.specs.Missing.{writes_missing, names_missing, pending_after, any_missing, registers_judged};
 
-use crate::form::Judged;
-use crate::item::{Found, Item, byte_after, item_at};
+use crate::form::{Fault, items_of};
+use crate::item::Item;
 use vdp_ports::taken::{Taken, has_register, pending_left, register_of, taken_as};
-use vdp_state::answer::{DONE, MISSING_REGISTER};
+use vdp_state::answer::Refusal;
 
 // Whether a control word writes a register that there is not.
 fn writes_missing(taken: Taken, w: u16) -> bool
@@ -14,8 +14,7 @@ fn writes_missing(taken: Taken, w: u16) -> bool
 {
     match taken {
         Taken::RegisterWrite => !has_register(register_of(w)),
-        Taken::FirstHalf => false,
-        Taken::SecondHalf => false,
+        Taken::FirstHalf | Taken::SecondHalf => false,
     }
 }
 
@@ -25,12 +24,7 @@ pub fn names_missing(pending: bool, item: Item) -> bool
 {
     match item {
         Item::ControlWord(w) => writes_missing(taken_as(pending, w), w),
-        Item::DataWord(_) => false,
-        Item::DataRead => false,
-        Item::StatusRead => false,
-        Item::Run(_) => false,
-        Item::Line(_) => false,
-        Item::NewFrame => false,
+        _ => false,
     }
 }
 
@@ -40,39 +34,26 @@ fn pending_after(pending: bool, item: Item) -> bool
 {
     match item {
         Item::ControlWord(w) => pending_left(taken_as(pending, w)),
-        Item::DataWord(_) => false,
-        Item::DataRead => false,
-        Item::StatusRead => false,
-        Item::Run(_) => pending,
-        Item::Line(_) => pending,
-        Item::NewFrame => pending,
+        Item::DataWord(_) | Item::DataRead | Item::StatusRead => false,
+        Item::Run(_) | Item::Line(_) | Item::NewFrame => pending,
     }
 }
 
 // Judges the registers that the items behind the version name, up to the first faulty item.
-pub(crate) fn judge_registers(pending: bool, script: &[u8]) -> Judged
-    ensures { result ≡ registers_judged pending (items_from 0 (drop 1 script.now)).items }
+pub(crate) fn judge_registers(pending: bool, script: &[u8]) -> Result<(), Fault>
+    ensures { let items = (items_from 0 (drop 1 script.now)).items in
+        MatchResult result (λ _. any_missing pending items ≡ false)
+        (λ fault. judged_of (Err fault) ≡ registers_judged pending items) }
 {
     let mut flag = pending;
-    let mut at = 1;
-    let mut place = 0;
-    while at < script.len() {
-        let found = item_at(script, at);
-        let Found::Whole(item) = found else {
-            break;
-        };
+    for (place, item) in items_of(script).enumerate() {
         if names_missing(flag, item) {
-            return Judged {
-                number: MISSING_REGISTER,
+            return Err(Fault {
+                refusal: Refusal::MissingRegister,
                 place,
-            };
+            });
         }
         flag = pending_after(flag, item);
-        at = byte_after(script, at, item);
-        place += 1;
     }
-    Judged {
-        number: DONE,
-        place,
-    }
+    Ok(())
 }

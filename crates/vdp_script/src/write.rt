@@ -2,73 +2,38 @@
 ghost use Rattle.std.specs.Prelude.{◌≡◌, ◌+◌, ◌≤◌, length};
 ghost use Rattle.std.proofs.lemmas.List.Edits.{sets};
 ghost use Rattle.vdp_script.specs.Item.{item_bytes};
-ghost use Rattle.vdp_script.specs.Write.{write_outcome, write_item, write_kind};
+ghost use Rattle.vdp_script.specs.Write.{written_of, write_outcome, write_item, write_kind};
 
-use crate::item::{Found, Item, LENGTH_BYTES, bytes_of, item_from, kind_of, word_of};
-use vdp_state::answer::{BAD_BUFFER, BAD_SCRIPT, DONE};
-use vdp_state::cell::put_byte;
-
-// The bytes of an item up to its kind.
-const HEAD: usize = 3;
-
-// The number, and the byte after the item.
-#[repr(C)]
-#[derive(Clone, Copy)]
-pub struct Written {
-    pub number: u8,
-    pub next: usize,
-}
+use crate::item::{Item, LENGTH_BYTES, item_from};
+use vdp_state::answer::Refusal;
 
 // Stores the bytes of an item that has room.
 fn put_item(script: &mut [u8], at: usize, item: Item)
     requires { at + length (item_bytes item) ≤ length script.old }
     ensures { script.new ≡ sets script.old at (item_bytes item) }
 {
-    let size = bytes_of(item);
-    put_byte(script, at, 0);
-    put_byte(script, at + 1, (size - LENGTH_BYTES) as u8);
-    put_byte(script, at + 2, kind_of(item));
-    if HEAD < size {
-        let w = word_of(item);
-        put_byte(script, at + 3, (w / 256) as u8);
-        put_byte(script, at + 4, (w % 256) as u8);
-    }
+    let size = item.size();
+    let [upper, lower] = item.content().unwrap_or(0).to_be_bytes();
+    let bytes = [0, (size - LENGTH_BYTES) as u8, item.kind(), upper, lower];
+    script[at..at + size].copy_from_slice(&bytes[..size]);
 }
 
-// Writes an item at a byte of a script, over what stands there.
-pub fn write_item(script: &mut [u8], at: usize, item: Item) -> Written
-    ensures { write_outcome result script.new ≡ write_item script.old at item }
+// Writes an item at a byte of a script, over what stands there, and gives the byte after it.
+pub fn write_item(script: &mut [u8], at: usize, item: Item) -> Result<usize, Refusal>
+    ensures { write_outcome (written_of result) script.new ≡ write_item script.old at item }
 {
-    let size = bytes_of(item);
-    if script.len() < size {
-        return Written {
-            number: BAD_BUFFER,
-            next: 0,
-        };
-    }
-    if script.len() - size < at {
-        return Written {
-            number: BAD_BUFFER,
-            next: 0,
-        };
+    let end = at.checked_add(item.size()).ok_or(Refusal::BadBuffer)?;
+    if script.len() < end {
+        return Err(Refusal::BadBuffer);
     }
     put_item(script, at, item);
-    Written {
-        number: DONE,
-        next: at + size,
-    }
+    Ok(end)
 }
 
 // Writes the item of a kind with this content; a kind that is not in the table has no item.
-pub fn write_kind(script: &mut [u8], at: usize, kind: u8, content: u16) -> Written
-    ensures { write_outcome result script.new ≡ write_kind script.old at kind content }
+pub fn write_kind(script: &mut [u8], at: usize, kind: u8, content: u16) -> Result<usize, Refusal>
+    ensures { write_outcome (written_of result) script.new ≡ write_kind script.old at kind content }
 {
-    let found = item_from(kind, content);
-    let Found::Whole(item) = found else {
-        return Written {
-            number: BAD_SCRIPT,
-            next: 0,
-        };
-    };
+    let item = item_from(kind, content).ok_or(Refusal::BadScript)?;
     write_item(script, at, item)
 }

@@ -3,17 +3,17 @@
 use Prim.Native.Nat.{ℕ, ◌+◌, ◌<◌, ◌≤◌}
 use mathlib.Core.Path.{◌≡◌, refl, sym, ap, ◌∙◌}
 use mathlib.Core.Bool.{Bool, true, false, cond, ◌&&◌, ◌||◌}
-use mathlib.Core.List.{List, [], ◌∷◌, ◌++◌}
+use mathlib.Core.List.{List, [], ◌∷◌, ◌++◌, append-nil}
 use native.Mathlib.Nat.{add-zero}
 use native.Mathlib.Omega.{arith}
-use borrow.Author.Tests.{le-leb, ltb-true, ltb-false}
-use lib.Dec.{leb, ltb}
-use lib.ListN.{length, get_or, drop, replicate, length-replicate, get_or-replicate}
+use borrow.Author.Tests.{le-leb}
+use lib.Dec.{leb}
+use lib.ListN.{length, get_or, replicate, length-replicate, get_or-replicate, drop_of_length-le}
 use lib.Seq.{ext_get_or}
 use Rattle.vdp_draw.specs.Dot.{solid}
 use Rattle.vdp_draw.specs.Painted.{painted}
 use Rattle.vdp_draw.specs.Tabulate.{tabulate, any_below}
-use Rattle.vdp_draw.proofs.Painted.{painted_length, painted_past, painted_inside, painted_all, any_same, any_either, none_below}
+use Rattle.vdp_draw.proofs.Painted.{painted_length, painted_inside, painted_all, any_same, any_either, none_below}
 use Rattle.vdp_sprites.proofs.Painting.{under_clear}
 use Rattle.vdp_sprites.specs.Behind.{under, behind, behind_all, meets_all}
 use Rattle.vdp_sprites.specs.Column.{shown_dot, sprite_dot, solid_count, collides}
@@ -47,10 +47,6 @@ module _ (vram : List ℕ) (line width : ℕ) where
   behind_length [] l = refl
   behind_length (s ∷ ss) l = behind_length ss (behind (shown_dot vram line s) width l) ∙ painted_length (λ y old. under old (shown_dot vram line s y)) 0 l width
 
-  behind_past : (ss : List Shown) (l : List ℕ) (x : ℕ) → width ≤ x → get_or (behind_all vram line width ss l) x 0 ≡ get_or l x 0
-  behind_past [] l x h = refl
-  behind_past (s ∷ ss) l x h = behind_past ss (behind (shown_dot vram line s) width l) x h ∙ painted_past (λ y old. under old (shown_dot vram line s y)) 0 l width x (omega arith)
-
   one_at : (s : Shown) (l : List ℕ) → width ≤ length l → (x : ℕ) → x < width → get_or (behind (shown_dot vram line s) width l) x 0 ≡ under (get_or l x 0) (shown_dot vram line s x)
   one_at s l fits x h = painted_inside (λ y old. under old (shown_dot vram line s y)) 0 l width x (omega arith) (omega arith) (omega arith)
 
@@ -71,29 +67,27 @@ module _ (vram : List ℕ) (line width : ℕ) where
       by_first ih true e = simp e
       by_first ih false e = simp e ih
 
-  module _ (ss : List Shown) (n : ℕ) (fits : width ≤ n) where
+  -- the columns that were clear
+  module _ (ss : List Shown) where
     abbrev clear : List ℕ
-    clear = replicate n 0
+    clear = replicate width 0
 
-    size : length clear ≡ n
-    size = length-replicate n 0
+    size : length clear ≡ width
+    size = length-replicate width 0
 
-    dots_at : (x : ℕ) → (t : Bool) → ltb x width ≡ t → x < n → get_or (behind_all vram line width ss clear) x 0 ≡ get_or (painted (λ y _. sprite_dot vram line ss y) 0 width clear) x 0
-    dots_at x true e h =
-        let below : x < width = ltb-true x width e in
-        behind_at ss clear (omega (arith, size)) x below ∙ ap (λ (d : ℕ). under d (sprite_dot vram line ss x)) (get_or-replicate n x 0 0 h) ∙ under_zero ss x
+    dots_at : (x : ℕ) → x < width → get_or (behind_all vram line width ss clear) x 0 ≡ get_or (painted (λ y _. sprite_dot vram line ss y) 0 width clear) x 0
+    dots_at x h =
+        behind_at ss clear (omega (arith, size)) x h ∙ ap (λ (d : ℕ). under d (sprite_dot vram line ss x)) (get_or-replicate width x 0 0 h) ∙ under_zero ss x
         ∙ sym (painted_inside (λ y _. sprite_dot vram line ss y) 0 clear width x (omega arith) (omega arith) (omega (arith, size)))
-    dots_at x false e h =
-        let past : width ≤ x = ltb-false x width e in
-        behind_past ss clear x past ∙ sym (painted_past (λ y _. sprite_dot vram line ss y) 0 clear width x (omega arith))
 
-    -- the columns of the screen, and those past the width
-    pub all_dots : behind_all vram line width ss clear ≡ tabulate (sprite_dot vram line ss) width ++ drop width clear
+    pub all_dots : behind_all vram line width ss clear ≡ tabulate (sprite_dot vram line ss) width
     all_dots =
         ext_get_or 0 (behind_all vram line width ss clear) (painted (λ y _. sprite_dot vram line ss y) 0 width clear)
         (behind_length ss clear ∙ sym (painted_length (λ y _. sprite_dot vram line ss y) 0 clear width))
-        (λ x h. dots_at x (ltb x width) refl (omega (arith, behind_length ss clear, size)))
+        (λ x h. dots_at x (omega (arith, behind_length ss clear, size)))
         ∙ painted_all (sprite_dot vram line ss) width clear (omega (arith, size))
+        ∙ ap (λ (r : List ℕ). tabulate (sprite_dot vram line ss) width ++ r) (drop_of_length-le clear {i = width} (omega (arith, size)))
+        ∙ append-nil (tabulate (sprite_dot vram line ss) width)
 
   all_meet : (ss : List Shown) (l : List ℕ) → width ≤ length l → meets_all vram line width ss l ≡ any_below (λ x. leb 2 (solid_count vram line ss x + bit (solid (get_or l x 0)))) width
   all_meet [] l fits = sym (none_below (λ x. leb 2 (0 + bit (solid (get_or l x 0)))) width (λ x h. lone (solid (get_or l x 0))))
@@ -111,8 +105,8 @@ module _ (vram : List ℕ) (line width : ℕ) where
       (λ x h. ap (λ (d : ℕ). there x || leb 2 (solid_count vram line ss x + bit (solid d))) (one_at s l fits x h) ∙ two_there (get_or l x 0) (shown_dot vram line s x) (solid_count vram line ss x))
 
   -- two solid dots on a column that was clear are a collision
-  pub all_collide : (ss : List Shown) (n : ℕ) → width ≤ n → meets_all vram line width ss (replicate n 0) ≡ collides vram line width ss
-  all_collide ss n fits =
-      all_meet ss (replicate n 0) (omega (arith, length-replicate {A = ℕ} n 0))
-      ∙ any_same (λ x. leb 2 (solid_count vram line ss x + bit (solid (get_or (replicate n 0) x 0)))) (λ x. leb 2 (solid_count vram line ss x)) width
-      (λ x h. ap (λ (d : ℕ). leb 2 (solid_count vram line ss x + bit (solid d))) (get_or-replicate n x 0 0 (omega arith)) ∙ ap (leb 2) (add-zero (solid_count vram line ss x)))
+  pub all_collide : (ss : List Shown) → meets_all vram line width ss (replicate width 0) ≡ collides vram line width ss
+  all_collide ss =
+      all_meet ss (replicate width 0) (omega (arith, length-replicate {A = ℕ} width 0))
+      ∙ any_same (λ x. leb 2 (solid_count vram line ss x + bit (solid (get_or (replicate width 0) x 0)))) (λ x. leb 2 (solid_count vram line ss x)) width
+      (λ x h. ap (λ (d : ℕ). leb 2 (solid_count vram line ss x + bit (solid d))) (get_or-replicate width x 0 0 h) ∙ ap (leb 2) (add-zero (solid_count vram line ss x)))

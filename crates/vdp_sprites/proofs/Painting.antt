@@ -1,15 +1,14 @@
 -- A sprite's columns painted from the first on the screen to the last are all columns of the screen painted, since a sprite
 -- is clear elsewhere.
 use Prim.Native.Nat.{ℕ, ◌+◌, ◌-◌, ◌<◌, ◌≤◌, min}
-use mathlib.Core.Path.{◌≡◌, refl, sym, ap, ap₂, ◌∙◌}
+use mathlib.Core.Path.{◌≡◌, refl, sym, ap, ◌∙◌}
 use mathlib.Core.Bool.{Bool, true, false, ◌&&◌}
-use mathlib.Core.List.{List, [], ◌∷◌, map}
-use native.Mathlib.Numerals.{add-one}
+use mathlib.Core.List.{List}
 use native.Mathlib.Omega.{arith}
 use borrow.Author.Tests.{le-leb, lt-leb, lt-ltb, le-ltb}
+use Rattle.std.proofs.Math.Bool.{and-false}
 use lib.Dec.{leb}
-use lib.ListN.{length, get_or, take, drop, length-take, drop_of_length-le}
-use lib.Seq.{length-take-le, drop-cons, get_or-take}
+use lib.ListN.{length, get_or}
 use Rattle.vdp_draw.specs.Dot.{solid}
 use Rattle.vdp_draw.specs.Painted.{painted, any_from}
 use Rattle.vdp_draw.proofs.Painted.{painted_within, any_within}
@@ -25,10 +24,6 @@ under_clear old dot e = by_old (solid old) refl
     by_old : (t : Bool) → solid old ≡ t → under old dot ≡ old
     by_old true p = simp p
     by_old false p = simp (p, e)
-
-and_false : (a : Bool) → (a && false) ≡ false
-and_false true = refl
-and_false false = refl
 
 module _ (vram : List ℕ) (line : ℕ) (s : Sprite) (columns width : ℕ) where
   abbrev from : ℕ
@@ -48,7 +43,7 @@ module _ (vram : List ℕ) (line : ℕ) (s : Sprite) (columns width : ℕ) where
   clear_before x h = simp (lt-leb s.x (x + 128) (omega arith))
 
   clear_past : (x : ℕ) → x < width → to ≤ x → dot x ≡ 0
-  clear_past x h k = simp (le-ltb (x + 128) (s.x + columns) (omega arith), and_false (leb s.x (x + 128)))
+  clear_past x h k = simp (le-ltb (x + 128) (s.x + columns) (omega arith), and-false (leb s.x (x + 128)))
 
   module _ (l : List ℕ) (fits : width ≤ length l) where
     -- all columns of the screen at once
@@ -60,14 +55,4 @@ module _ (vram : List ℕ) (line : ℕ) (s : Sprite) (columns width : ℕ) where
     pub whole_meets : any_from (λ x. solid (get_or l x 0) && solid (dot x)) from (to - from) ≡ meets dot width l
     whole_meets =
         any_within (λ x. solid (get_or l x 0) && solid (dot x)) from to width (omega arith)
-        (λ y h. ((λ k. ap (λ (d : ℕ). solid (get_or l y 0) && solid d) (clear_before y k) ∙ and_false (solid (get_or l y 0))), (λ k. ap (λ (d : ℕ). solid (get_or l y 0) && solid d) (clear_past y h k) ∙ and_false (solid (get_or l y 0)))))
-
--- the sprite at k of those kept, before the rest
-pub kept_next : (sprites : ℕ → Sprite) (l : List ℕ) (count k : ℕ) → k < count → count ≤ length l → map sprites (drop k (take count l)) ≡ sprites (get_or l k 0) ∷ map sprites (drop (k + 1) (take count l))
-kept_next sprites l count k h fits =
-    let long : k < length (take count l) = omega (arith, length-take-le count l fits) in
-    ap (map sprites) (drop-cons (take count l) k 0 long)
-    ∙ ap₂ (λ (i n : ℕ). sprites i ∷ map sprites (drop n (take count l))) (get_or-take count l k 0 h) (sym (add-one k))
-
-pub kept_none : (sprites : ℕ → Sprite) (l : List ℕ) (count k : ℕ) → count ≤ k → map sprites (drop k (take count l)) ≡ []
-kept_none sprites l count k h = ap (map sprites) (drop_of_length-le (take count l) {i = k} (omega (arith, length-take count l)))
+        (λ y h. ((λ k. ap (λ (d : ℕ). solid (get_or l y 0) && solid d) (clear_before y k) ∙ and-false (solid (get_or l y 0))), (λ k. ap (λ (d : ℕ). solid (get_or l y 0) && solid d) (clear_past y h k) ∙ and-false (solid (get_or l y 0)))))

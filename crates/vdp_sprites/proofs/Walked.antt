@@ -3,22 +3,15 @@ use Prim.Native.Nat.{ℕ, suc, ◌+◌, ◌-◌, ◌<◌, ◌≤◌}
 use mathlib.Core.Path.{◌≡◌, sym, ap, ap₂, subst, ◌∙◌}
 use mathlib.Core.Bool.{Bool, true, false}
 use mathlib.Core.List.{List, [], ◌∷◌, ◌++◌, append_assoc, append-nil}
-use native.Mathlib.Nat.{zero-add}
-use native.Mathlib.Numerals.{add-one}
 use native.Mathlib.Omega.{arith}
 use borrow.Author.Tests.{eq-eqb, ne_eqb}
-use lib.ListN.{length, take, set, length-set}
-use lib.Seq.{take-suc-set}
+use lib.ListN.{length, length-append}
 use Rattle.vdp_sprites.specs.declared.sprite.Sprite.{Sprite}
 use Rattle.vdp_sprites.specs.Sprite.{sprite_at, on_line}
 use Rattle.vdp_sprites.specs.Walk.{Walk, walk_of, onward, walk_from}
 
 abbrev pub joined : List ℕ → ℕ → Walk → Walk
 joined kept visits w = walk_of (kept ++ w.kept) (visits + w.visits) w.overflow
-
--- nothing is visited yet
-pub joined_start : (w : Walk) → joined [] 0 w ≡ w
-joined_start w = ap (λ (n : ℕ). walk_of w.kept n w.overflow) (zero-add w.visits)
 
 -- nothing is left to visit
 pub joined_end : (kept : List ℕ) (visits : ℕ) (overflow : Bool) → walk_of kept visits overflow ≡ joined kept visits (walk_of [] 0 overflow)
@@ -69,28 +62,25 @@ module _ (vram : List ℕ) (base : ℕ) (wide : Bool) (line most visits i : ℕ)
       ∙ simp (h', ne_eqb r 0 z) (ap₂ (λ (k : List ℕ) (n : ℕ). walk_of k n w.overflow) (sym (append_assoc kept (i ∷ []) w.kept)) (counted visits w.visits))
       ∙ ap (λ (t : Sprite). joined (kept ++ (i ∷ [])) (visits + 1) (after t (r - 1))) (sym e)
 
--- a number stored after those kept
-pub kept_more : (l : List ℕ) (count i : ℕ) → count < length l → take count l ++ (i ∷ []) ≡ take (count + 1) (set l count i)
-kept_more l count i h = sym (ap (λ (n : ℕ). take n (set l count i)) (add-one count) ∙ take-suc-set l count i h)
-
--- a visit that goes on, kept or passed by: the numbers kept are in their array, and the walk goes on from the link
+-- a visit that goes on, kept or passed by: what is kept has room, and the walk goes on from the link
 module _ (vram : List ℕ) (base : ℕ) (wide : Bool) (line most room visits i : ℕ) (more : visits < most) (s : Sprite) (e : s ≡ sprite_at vram base i) (whole : Walk) where
-  abbrev pub Met : List ℕ → ℕ → Type 0
-  Met kept count =
-      (count ≤ room) × (length kept ≡ 20)
-      × (joined (take count kept) (visits + 1) (onward wide s (walk_from vram base wide line (most - (visits + 1)) (room - count) s.link)) ≡ whole)
+  abbrev pub Met : List ℕ → Type 0
+  Met kept =
+      (length kept ≤ room)
+      × (joined kept (visits + 1) (onward wide s (walk_from vram base wide line (most - (visits + 1)) (room - length kept) s.link)) ≡ whole)
 
-  module _ (kept : List ℕ) (count : ℕ) (fits : count ≤ room) (long : length kept ≡ 20) (is : joined (take count kept) visits (walk_from vram base wide line (most - visits) (room - count) i) ≡ whole) where
-    pub passed : on_line s line ≡ false → Met kept count
-    passed h = (fits, long, sym (visit_pass vram base wide line most visits i (take count kept) more s e (room - count) h) ∙ is)
+  module _ (kept : List ℕ) (fits : length kept ≤ room) (is : joined kept visits (walk_from vram base wide line (most - visits) (room - length kept) i) ≡ whole) where
+    pub passed : on_line s line ≡ false → Met kept
+    passed h = (fits, sym (visit_pass vram base wide line most visits i kept more s e (room - length kept) h) ∙ is)
 
-    pub kept_on : room ≤ 20 → on_line s line ≡ true → (count ≡ room → ⊥) → Met (set kept count i) (count + 1)
-    kept_on few h differ =
-        let within : count < length kept = omega (arith, fits, few, long, differ) in
-        let less : room - count - 1 ≡ room - (count + 1) = omega arith in
-        let some : room - count ≡ 0 → ⊥ = λ z. differ (omega (arith, fits, z)) in
-        let next : List ℕ → ℕ → Walk = λ k r. joined k (visits + 1) (onward wide s (walk_from vram base wide line (most - (visits + 1)) r s.link)) in (
+    pub kept_on : on_line s line ≡ true → (length kept ≡ room → ⊥) → Met (kept ++ (i ∷ []))
+    kept_on h differ =
+        let longer : length (kept ++ (i ∷ [])) ≡ length kept + 1 = length-append kept (i ∷ []) in
+        let less : room - length kept - 1 ≡ room - length (kept ++ (i ∷ [])) = omega arith in
+        let some : room - length kept ≡ 0 → ⊥ = λ z. differ (omega (arith, fits, z)) in (
           omega (arith, fits, differ),
-          simp length-set long,
-          sym (visit_keep vram base wide line most visits i (take count kept) more s e (room - count) h some ∙ ap₂ next (kept_more kept count i within) less) ∙ is,
+          sym
+              (visit_keep vram base wide line most visits i kept more s e (room - length kept) h some
+              ∙ ap (λ (r : ℕ). joined (kept ++ (i ∷ [])) (visits + 1) (onward wide s (walk_from vram base wide line (most - (visits + 1)) r s.link))) less)
+              ∙ is,
         )

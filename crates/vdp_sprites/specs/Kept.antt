@@ -1,12 +1,12 @@
--- Serves proofs only: the walk that the code's struct holds, with the sprites kept as a list, and what each shows.
-use Rattle.std.specs.Prelude.{ℕ, take, Bool, false, List}
+-- Serves proofs only: the walk that the code's struct holds, and what each sprite kept shows.
+use Rattle.std.specs.Prelude.{ℕ, Bool, false, List}
 use Rattle.vdp_sprites.specs.declared.walk.KeptSprites.{KeptSprites}
 use Rattle.vdp_sprites.specs.Shown.{Shown, shown_from}
 use Rattle.vdp_sprites.specs.SpriteLine.{kept_sprites}
 use Rattle.vdp_sprites.specs.Walk.{Walk, walk_of}
 
 abbrev pub walked : KeptSprites → Walk
-walked w = walk_of (take w.count w.kept) w.visits w.overflow
+walked w = walk_of w.kept.items w.visits w.overflow
 
 -- from so many pixels on; `began` is used up as the line began
 abbrev pub shown_kept : List ℕ → ℕ → ℕ → Bool → KeptSprites → List Shown

@@ -3,6 +3,7 @@ ghost use Rattle.std.specs.Prelude.{◌≡◌};
 ghost use Rattle.vdp_sprites.specs.SpriteLine.{sprite_line};
 
 use crate::paint::paint_kept;
+use crate::sprite::Table;
 use crate::used::pixels_used;
 use crate::walk::walk;
 use vdp_draw::width::width_of;
@@ -22,11 +23,12 @@ pub struct SpriteLine {
 pub fn sprite_line(vram: &[u8], base: u16, wide: bool, began: bool, line: u8) -> SpriteLine
     ensures { result ≡ sprite_line vram.now base wide began line }
 {
-    let w = walk(vram, base, wide, line);
+    let table = Table { vram, base };
+    let w = walk(table, wide, line);
     let width = width_of(wide);
-    let used = pixels_used(vram, base, w);
-    let mut dots = [0u8; 320];
-    let collision = paint_kept(vram, base, w, line, width, began, &mut dots);
+    let used = pixels_used(table, &w);
+    let mut dots = [0; 320];
+    let collision = paint_kept(table, &w, line, began, &mut dots[..width as usize]);
     SpriteLine {
         dots,
         visits: w.visits,

@@ -1,15 +1,15 @@
 // The walk over the sprites of a line (definition, Drawing; notes s15).
-ghost use Rattle.std.specs.Prelude.{◌≡◌, ◌≤◌};
+ghost use Rattle.std.specs.Prelude.{◌≡◌};
 ghost use Rattle.vdp_sprites.specs.Walk.{most_visits, most_on_line, ends_at, walk as walk_of};
 ghost use Rattle.vdp_sprites.specs.Kept.{walked};
 
-use crate::sprite::{on_line, sprite_at};
+use crate::sprite::{Table, on_line};
+use arrayvec::ArrayVec;
 
-// The numbers of the sprites kept on a line, the first `count` of `kept`; how many were visited; one too many met.
-#[derive(Clone, Copy)]
+// The numbers of the sprites kept on a line; how many were visited; one too many met.
+#[derive(Drop)]
 pub(crate) struct KeptSprites {
-    pub kept: [u8; 20],
-    pub count: usize,
+    pub kept: ArrayVec<u8, 20>,
     pub visits: u8,
     pub overflow: bool,
 }
@@ -34,40 +34,38 @@ fn last(wide: bool, link: u8) -> bool
 }
 
 // Walks the links from sprite 0 on; on meeting one sprite too many the walk is left at once.
-pub(crate) fn walk(vram: &[u8], base: u16, wide: bool, line: u8) -> KeptSprites
-    ensures result_value { walked result ≡ walk_of vram.now base wide line }
-    ensures count_bound { result.count ≤ 20 }
+pub(crate) fn walk(table: Table<'_>, wide: bool, line: u8) -> KeptSprites
+    ensures { walked result ≡ walk_of table.entry.vram.now table.entry.base wide line }
 {
     let most = most_visits(wide);
     let room = most_on_line(wide);
-    let mut kept = [0u8; 20];
-    let mut count: usize = 0;
-    let mut visits: u8 = 0;
-    let mut i: u8 = 0;
-    while visits < most {
-        visits += 1;
-        let s = sprite_at(vram, base, i);
+    let mut kept = ArrayVec::new();
+    let mut i = 0;
+    for before in 0..most {
+        let visits = before + 1;
+        let s = table.sprite_at(i);
         if on_line(s, line) {
-            if count == room {
+            if kept.len() == room {
                 return KeptSprites {
                     kept,
-                    count,
                     visits,
                     overflow: true,
                 };
             }
-            kept[count] = i;
-            count += 1;
+            kept.push(i);
         }
         if last(wide, s.link) {
-            break;
+            return KeptSprites {
+                kept,
+                visits,
+                overflow: false,
+            };
         }
         i = s.link;
     }
     KeptSprites {
         kept,
-        count,
-        visits,
+        visits: most,
         overflow: false,
     }
 }

@@ -1,4 +1,3 @@
-pub mod All
 pub mod Bools
 pub mod Facts
 pub mod Iterate

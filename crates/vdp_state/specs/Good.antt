@@ -1,5 +1,5 @@
 -- GOOD: definition, The state.
-use Rattle.std.specs.Prelude.{ℕ, ◌%◌, ◌^◌, Bool, true, ◌&&◌, ◌||◌, List, [], ◌∷◌, leb, ltb, eqb}
+use Rattle.std.specs.Prelude.{ℕ, ◌≡◌, ◌%◌, ◌^◌, Bool, true, ◌&&◌, ◌||◌, List, [], ◌∷◌, leb, ltb, eqb}
 use Rattle.std.specs.Bool.{beq}
 use Rattle.vdp_state.specs.declared.state.Dma.{Dma}
 use Rattle.vdp_state.specs.declared.state.Control.{Control}
@@ -11,6 +11,10 @@ use Rattle.vdp_state.specs.Colour.{colour_word}
 abbrev pub all : (ℕ → Bool) → List ℕ → Bool
 all p [] = true
 all p (x ∷ xs) = p x && all p xs
+
+-- whatever a call of a test may give for a number is what p says of it
+abbrev pub Tests : (ℕ → Bool → Type 0) → (ℕ → Bool) → Type 0
+Tests post p = (x : ℕ) → (b : Bool) → post x b → b ≡ p x
 
 -- "No colour word has a bit outside 0EEEh."
 abbrev pub is_colour : ℕ → Bool

@@ -3,6 +3,7 @@ pub mod Cell
 pub mod Colour
 pub mod Fresh
 pub mod Good
+pub mod Kind
 pub mod Range
 pub mod Same
 pub mod State

@@ -3,6 +3,7 @@ ghost use Rattle.std.specs.Prelude.{◌≡◌};
 ghost use Rattle.vdp_state.specs.Fresh.{fresh as fresh_state};
 
 use crate::good::LAST_LINE;
+use crate::kind::DmaKind;
 use crate::state::{Control, Dma, Flags, Port, State, Timing};
 
 #[tactic(auto, unfolding(crate::specs::Fresh::fresh))]
@@ -20,7 +21,7 @@ pub fn fresh(pal: bool) -> State
                 pending: false,
             },
             dma: Dma {
-                kind: 0,
+                kind: DmaKind::Idle as u8,
                 remaining: 0,
                 source: 0,
                 fill: 0,

@@ -7,4 +7,5 @@ pub mod cell;
 pub mod colour;
 pub mod fresh;
 pub mod good;
+pub mod kind;
 pub mod state;

@@ -10,7 +10,8 @@ pub struct Port {
     pub pending: bool,
 }
 
-// DMA kind: 0 idle, 1 fill waiting, 2 transfer, 3 fill, 4 copy; units remaining; source; fill byte.
+// The number of a DMA kind, units remaining, source and fill byte. The kind stays a number, since a state that C lends
+// may have one that there is not, and is then refused.
 #[repr(C)]
 #[derive(Clone, Copy)]
 pub struct Dma {
@@ -60,7 +61,8 @@ pub struct State {
     pub pal: bool,
 }
 
-// A cell and a content for it: a VRAM word at an even place, a colour, a scroll word or a register, or no cell.
+// A cell and a content for it: a VRAM word at an even place, a colour, a scroll word or a register, or no cell. One enum
+// and not an Option of one, since a tape record numbers all five.
 #[derive(Clone, Copy)]
 pub enum Store {
     Nothing,

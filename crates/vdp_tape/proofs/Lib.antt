@@ -4,3 +4,4 @@ pub mod Records
 pub mod Sequence
 pub mod Steps
 pub mod Tape
+pub mod Top

@@ -7,11 +7,27 @@ use native.Mathlib.Omega.{arith}
 use borrow.Author.Tests.{ltb-true, ltb-false, eqb-true, eqb-false, ne_eqb, not-true}
 use lib.Dec.{eqb, ltb}
 use lib.ListN.{length, take, drop}
-use Rattle.vdp_state.specs.Answer.{Test, gives, holds_at, first_of, order, first}
+use Rattle.vdp_state.specs.declared.answer.Refusal.{Refusal}
+use Rattle.vdp_state.specs.declared.answer.Refusal.TheVariants.{BadState, BadBuffer, Busy, NotModelled, NoSuchPlace, TapeFull, SourceNotLent, BadRecord, NothingThere, BadScript, MissingRegister}
+use Rattle.vdp_state.specs.Answer.{number, Test, gives, holds_at, first_of, order, first}
 use Rattle.vdp_state.specs.Good.{all}
 use Rattle.vdp_state.proofs.Bools.{by_cases, both_left, both_right, cond_zero}
 use Rattle.vdp_tape.specs.Number.{recorded_number}
 use Rattle.vdp_tape.specs.OneStep.{Numbered}
+
+-- a refusal has a number above 0
+pub above_zero : (x : Refusal) → eqb (number x) 0 ≡ false
+above_zero BadState = refl
+above_zero BadBuffer = refl
+above_zero Busy = refl
+above_zero NotModelled = refl
+above_zero NoSuchPlace = refl
+above_zero TapeFull = refl
+above_zero SourceNotLent = refl
+above_zero BadRecord = refl
+above_zero NothingThere = refl
+above_zero BadScript = refl
+above_zero MissingRegister = refl
 
 -- the same number, from that of the plain form: 2 comes right after 1 in the order, and 6 last
 abbrev pub with_tape : ℕ → Bool → Bool → ℕ

@@ -3,7 +3,7 @@
 --     read_back       reading the record of a step in range gives the step
 --     record_good     the record of a step in range is good
 --     good_written    a good record is what writing the step that it reads as gives
-use Prim.Native.Nat.{ℕ, zero, suc, ◌+◌, ◌*◌, ◌/◌, ◌%◌, ◌<◌, ◌≤◌}
+use Prim.Native.Nat.{ℕ, zero, suc, ◌+◌, ◌*◌, ◌/◌, ◌%◌, ◌^◌, ◌<◌, ◌≤◌}
 use mathlib.Core.Path.{◌≡◌, refl, sym, ap, ap₂, ◌∙◌}
 use mathlib.Core.Bool.{Bool, true, false, ◌&&◌}
 use mathlib.Core.List.{List, [], ◌∷◌, ◌++◌, append_assoc}
@@ -11,6 +11,9 @@ use native.Mathlib.Omega.{arith}
 use borrow.Author.Tests.{eq-eqb, ne_eqb, eqb-true, leb-true, ltb-true}
 use lib.Dec.{eqb, ltb}
 use lib.ListN.{length, get_or, length-append}
+use lib.Pointwise.{pointwise}
+use mir.Val.{bool_byte}
+use native.Mathlib.Nat.{pow-succ', div-div-eq-div-mul}
 use Rattle.vdp_state.specs.declared.state.Control.{Control}
 use Rattle.vdp_state.specs.declared.state.Step.{Step}
 use Rattle.vdp_state.specs.declared.state.Store.{Store}
@@ -33,6 +36,10 @@ InBytes (suc width) n = InBytes width (n / 256)
 -- a number that one byte holds is that byte
 pub one_byte : (n : ℕ) → InBytes 1 n → n % 256 ≡ n
 one_byte n h = omega arith
+
+-- a number without its two lower bytes
+pub two_down : (n : ℕ) → n / 256 / 256 ≡ n / 65536
+two_down n = omega arith
 
 bytes_length : (width n : ℕ) → length (bytes_of width n) ≡ width
 bytes_length zero n = refl
@@ -120,6 +127,11 @@ pub flag_bit_fits : (b : Bool) → InBytes 1 (flag_bit b) × (eqb (flag_bit b) 1
 flag_bit_fits true = (refl, refl)
 flag_bit_fits false = (refl, refl)
 
+-- a flag as `u8::from` gives it
+pub bit_byte : (b : Bool) → bool_byte b ≡ flag_bit b
+bit_byte true = refl
+bit_byte false = refl
+
 -- ---- flags in a byte, up to three of them
 pub bit_small : (b : Bool) → flag_bit b ≤ 1
 bit_small true = omega arith
@@ -185,6 +197,20 @@ module _ (t : Step) (g : GoodStep t) where
   record_good =
       both (both (ap (λ (x : Step). same (record_of x) (record_of t)) read_back ∙ same_self (record_of t)) (ap (λ (x : Step). good_control x.control) read_back ∙ g.control.good))
       (ap (λ (x : Step). good_store x.store) read_back ∙ g.store)
+
+-- `==` at slices compares as the definition does
+pub pointwise_same : (a b : List ℕ) → pointwise eqb a b ≡ same a b
+pointwise_same [] [] = refl
+pointwise_same [] (y ∷ ys) = refl
+pointwise_same (x ∷ xs) [] = refl
+pointwise_same (x ∷ xs) (y ∷ ys) = ap (λ (r : Bool). eqb x y && r) (pointwise_same xs ys)
+
+-- a flag of a byte, as the code shifts it down
+pub flag_shifted : (i n : ℕ) → eqb (n / 2 ^ i % 2) 1 ≡ flag_at n i
+flag_shifted zero n = ap (λ (m : ℕ). eqb (m % 2) 1) (let e : n / 2 ^ zero ≡ n = omega arith in e)
+flag_shifted (suc i) n =
+    ap (λ (m : ℕ). eqb (m % 2) 1) (ap (λ (d : ℕ). n / d) (pow-succ' 2 i) ∙ sym (div-div-eq-div-mul n 2 (2 ^ i)))
+    ∙ flag_shifted i (n / 2)
 
 pub good_written : (l : List ℕ) → good_record l ≡ true → record_of (step_of l) ≡ l
 good_written l e =

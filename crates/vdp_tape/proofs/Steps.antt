@@ -1,16 +1,19 @@
 -- Outcomes of recorded calls, and loops that go over the records of a tape.
-use Prim.Native.Nat.{ℕ, suc, ◌+◌, ◌-◌, ◌*◌, ◌<◌, ◌≤◌}
+use Prim.Native.Nat.{ℕ, suc, ◌-◌, ◌<◌, ◌≤◌}
 use mathlib.Core.Path.{◌≡◌, refl, sym, ap, ap₂, ◌∙◌}
-use mathlib.Core.Bool.{false, not, ◌&&◌, ◌||◌}
+use mathlib.Core.Bool.{false, not, ◌||◌}
 use mathlib.Core.List.{List, [], ◌∷◌}
 use native.Mathlib.Omega.{arith}
-use borrow.Author.Tests.{ne_eqb, ltb-false}
+use borrow.Author.Tests.{ltb-false}
 use lib.Dec.{eqb, ltb}
-use lib.ListN.{length, take, drop}
+use lib.ListN.{length}
+use Rattle.std.specs.Prelude.{Err}
+use Rattle.vdp_state.specs.declared.answer.Refusal.{Refusal}
 use Rattle.vdp_state.specs.declared.state.State.{State}
 use Rattle.vdp_state.specs.declared.state.Step.{Step}
 use Rattle.vdp_state.specs.declared.state.Store.{Store}
 use Rattle.vdp_state.specs.declared.state.Store.TheVariants.{Nothing, Vram, Cram, Vsram, Register}
+use Rattle.vdp_state.specs.Answer.{number}
 use Rattle.vdp_state.specs.Cell.{perform, undoing, present, stored_in}
 use Rattle.vdp_state.specs.Good.{good}
 use Rattle.vdp_state.specs.State.{Chip, chip}
@@ -21,21 +24,20 @@ use Rattle.vdp_ports.specs.Control.{taken_step, control_step}
 use Rattle.vdp_ports.specs.Taken.{taken_as, register_of, has_register}
 use Rattle.vdp_tape.specs.Number.{capacity, recorded_number}
 use Rattle.vdp_tape.specs.OneStep.{OneStep, OffVram}
-use Rattle.vdp_tape.specs.Record.{step_of, good_record, record_at}
-use Rattle.vdp_tape.specs.Recorder.{Recorder, recorder, record_step, record_steps, Plan, TapeOutcome, tape_outcome_at, recorded_by}
-use Rattle.vdp_tape.specs.StepBack.{top_good, undo, back_number}
+use Rattle.vdp_tape.specs.Record.{step_of, record_at}
+use Rattle.vdp_tape.specs.Recorder.{Recorder, recorder, record_step, record_steps, Plan, TapeOutcome, tape_answer_of, tape_outcome, tape_outcome_at, recorded_by}
+use Rattle.vdp_tape.proofs.Numbers.{above_zero}
+use Rattle.vdp_tape.specs.StepBack.{undo, back_number}
 
 pub empty : (l : List ℕ) → length l ≡ 0 → l ≡ []
 empty [] e = refl
 empty (x ∷ l) e = absurd (let bad : ⊥ = omega arith in bad)
 
--- ---- refused and done
-module _ (result : ℕ) (before after : Recorder) where
-  pub outcome_refused : (n m : ℕ) → n ≡ m → (n ≡ 0 → ⊥) → record { number = n; result = 0; recorder = before } ≡ tape_outcome_at m result before after
-  outcome_refused n m e h = sym (simp (ne_eqb n 0 h)) ∙ ap (λ (k : ℕ). tape_outcome_at k result before after) e
-
-  pub outcome_done : (n m : ℕ) → n ≡ m → n ≡ 0 → record { number = 0; result = result; recorder = after } ≡ tape_outcome_at m result before after
-  outcome_done n m e z = sym (simp (sym e ∙ z))
+-- ---- refused
+-- what a call leaves that is refused so
+pub refused : (p : Plan) (r : Recorder) (x : Refusal) → number x ≡ recorded_number p.tests r.count (capacity r.tape) p.steps → tape_outcome (tape_answer_of r.chip.state r.count (Err x)) r.chip.vram r.tape ≡ recorded_by p r
+refused p r x e =
+    sym (simp (above_zero x)) ∙ ap (λ (n : ℕ). tape_outcome_at n p.result r (record_steps p.step p.steps r)) e
 
 -- the outcome of a plan of one step, by its number, its result and the step
 pub one_outcome : (p : Plan) (r : Recorder) (plain result : ℕ) (t : Step) → OneStep p r.chip plain result t → recorded_by p r ≡ tape_outcome_at (recorded_number p.tests r.count (capacity r.tape) 1) result r (record_step r t)
@@ -78,18 +80,11 @@ control_off s w = taken_off (taken_as s.control.port.pending w) s w
 
 -- ---- loops over the records of a tape
 module _ (tape : List ℕ) (top left : ℕ) where
-  -- the part of a tape that a record is
-  pub record_part : take (32 * (top - 1) + 32 - 32 * (top - 1)) (drop (32 * (top - 1)) tape) ≡ record_at tape (top - 1)
-  record_part = ap (λ (k : ℕ). take k (drop (32 * (top - 1)) tape)) (let e : 32 * (top - 1) + 32 - 32 * (top - 1) ≡ 32 = omega arith in e)
-
   one_less : 0 < left → left ≡ suc (left - 1)
   one_less h = omega arith
 
   pub undo_turn : (c c' : Chip) → 0 < left → c' ≡ perform c (step_of (record_at tape (top - 1))) → undo tape (top - 1) (left - 1) c' ≡ undo tape top left c
   undo_turn c c' h e = ap (undo tape (top - 1) (left - 1)) e ∙ sym (ap (λ (k : ℕ). undo tape top k c) (one_less h))
-
-  pub good_turn : 0 < left → top_good tape top left ≡ (good_record (record_at tape (top - 1)) && top_good tape (top - 1) (left - 1))
-  good_turn h = ap (top_good tape top) (one_less h)
 
 -- a step back that is not refused has its records on the tape
 pub back_accepted : (r : Recorder) (k : ℕ) → back_number r k ≡ 0 → (k ≤ r.count) × (r.count ≤ capacity r.tape)

@@ -1,12 +1,13 @@
--- Records on a tape: a new one is read where it was written, and those below it stay; the loop that stores one.
-use Prim.Native.Nat.{ℕ, suc, ◌+◌, ◌-◌, ◌*◌, ◌<◌, ◌≤◌}
-use mathlib.Core.Path.{◌≡◌, sym, ap, ap₂, ◌∙◌}
+-- Records on a tape: a new one is read where it was written, and those below it stay; the copy that stores one.
+use Prim.Native.Nat.{ℕ, ◌+◌, ◌-◌, ◌*◌, ◌<◌, ◌≤◌}
+use borrow.Rule.Slice.PartMut.{put_mid}
+use mathlib.Core.Path.{◌≡◌, refl, sym, ap, ◌∙◌}
 use mathlib.Core.List.{List, ◌++◌, append_assoc}
-use native.Mathlib.Nat.{add-zero}
-use native.Mathlib.Numerals.{add-one}
 use native.Mathlib.Omega.{arith}
-use lib.ListN.{length, get_or, take, drop, set, take-append-drop, length-drop, drop_of_length-le}
-use lib.Seq.{drop-cons, sets, sets-eq, length-take-le, drop-append-le, take-append-le, drop_at, take_at}
+use lib.ListN.{length, take, drop, take-append-drop, length-drop}
+use lib.Seq.{sets, sets-eq, length-take-le, drop-append-le, take-append-le, drop_at, take_at}
+use Rattle.std.proofs.lemmas.List.Edits.{paste_all}
+use Rattle.std.proofs.lemmas.Slice.{put_mid-paste}
 use Rattle.vdp_tape.specs.Record.{record_at}
 
 module _ (tape bytes : List ℕ) (count : ℕ) (long : length bytes ≡ 32) (room : 32 * count + 32 ≤ length tape) where
@@ -37,15 +38,10 @@ module _ (tape bytes : List ℕ) (count : ℕ) (long : length bytes ≡ 32) (roo
       ap (λ (l : List ℕ). record_at l i) written ∙ below _ i h
       ∙ sym (ap (λ (l : List ℕ). record_at l i) (sym (take-append-drop place tape)) ∙ below (drop place tape) i h)
 
--- ---- bytes stored one after the other
-module _ (l : List ℕ) (at : ℕ) (bytes : List ℕ) where
-  pub sets_start : sets l (at + 0) (drop 0 bytes) ≡ sets l at bytes
-  sets_start = ap (λ (j : ℕ). sets l j bytes) (add-zero at)
-
-  pub sets_turn : (i : ℕ) → i < length bytes → sets (set l (at + i) (get_or bytes i 0)) (at + (i + 1)) (drop (i + 1) bytes) ≡ sets l (at + i) (drop i bytes)
-  sets_turn i h =
-      let next : at + (i + 1) ≡ suc (at + i) = omega arith in
-      sym (ap (sets l (at + i)) (drop-cons bytes i 0 h) ∙ ap₂ (λ (j k : ℕ). sets (set l (at + i) (get_or bytes i 0)) j (drop k bytes)) (sym next) (sym (add-one i)))
-
-  pub sets_end : (i : ℕ) → length bytes ≤ i → sets l (at + i) (drop i bytes) ≡ l
-  sets_end i h = ap (sets l (at + i)) (drop_of_length-le bytes h)
+-- ---- bytes copied over a part
+pub put_sets : (tape bytes : List ℕ) (at k : ℕ) → k ≡ length bytes → at + length bytes ≤ length tape → put_mid at k tape bytes ≡ sets tape at bytes
+put_sets tape bytes at k long room =
+    put_mid-paste at k tape bytes bytes (length bytes) refl (sym long) refl
+    ∙ paste_all tape at bytes (length bytes) refl
+    ∙ sym (append_assoc (take at tape) bytes (drop (at + length bytes) tape))
+    ∙ sym (sets-eq bytes tape at room)

@@ -1,12 +1,13 @@
 -- What a caller of recorded calls holds from call to call, and a step recorded: definition, The tape.
-use Rattle.std.specs.Prelude.{ℕ, ◌+◌, ◌*◌, cond, List, eqb}
+use Rattle.std.specs.Prelude.{ℕ, ◌+◌, ◌*◌, cond, List, eqb, Result, Ok, Err}
 use Rattle.std.proofs.lemmas.List.Edits.{sets}
+use Rattle.vdp_state.specs.declared.answer.Refusal.{Refusal}
 use Rattle.vdp_state.specs.declared.state.State.{State}
 use Rattle.vdp_state.specs.declared.state.Step.{Step}
-use Rattle.vdp_state.specs.Answer.{Test}
+use Rattle.vdp_state.specs.Answer.{Test, number}
 use Rattle.vdp_state.specs.Cell.{perform, undoing, iterate}
 use Rattle.vdp_state.specs.State.{Chip, chip}
-use Rattle.vdp_tape.specs.declared.recorder.TapeAnswer.{TapeAnswer}
+use Rattle.vdp_tape.specs.declared.recorder.Recorded.{Recorded}
 use Rattle.vdp_tape.specs.Number.{capacity, recorded_number}
 use Rattle.vdp_tape.specs.Record.{record_of}
 
@@ -41,6 +42,18 @@ pub record Plan : Type 0 where
   pub result : ℕ
   pub steps : ℕ
   pub step : Chip → Step
+
+-- what a recorded call and a step back answer: as the plain call, with the count of records
+pub record TapeAnswer : Type 0 where
+  pub number : ℕ
+  pub result : ℕ
+  pub count : ℕ
+  pub state : State
+
+-- what such a call answers from a state and a count, by what it gives
+abbrev pub tape_answer_of : State → ℕ → Result Recorded Refusal → TapeAnswer
+tape_answer_of s count (Ok r) = record { number = 0; result = r.result; count = r.count; state = r.state }
+tape_answer_of s count (Err refusal) = record { number = number refusal; result = 0; count = count; state = s }
 
 -- what a recorded call leaves
 pub record TapeOutcome : Type 0 where

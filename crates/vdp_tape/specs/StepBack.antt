@@ -8,6 +8,11 @@ use Rattle.vdp_tape.specs.Number.{capacity, over_capacity}
 use Rattle.vdp_tape.specs.Record.{step_of, good_record, record_at}
 use Rattle.vdp_tape.specs.Recorder.{Recorder, TapeOutcome, tape_outcome_at}
 
+-- the top k of n records, from the top down
+abbrev pub top_records : List ℕ → ℕ → ℕ → List (List ℕ)
+top_records tape n zero = []
+top_records tape n (suc k) = record_at tape (n - 1) ∷ top_records tape (n - 1) k
+
 -- the top k of n records are good
 abbrev pub top_good : List ℕ → ℕ → ℕ → Bool
 top_good tape n zero = true

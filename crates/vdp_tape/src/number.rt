@@ -1,9 +1,10 @@
 // What the tape adds to a call's refusals (definition, Numbers a call may answer).
 ghost use Rattle.std.specs.Prelude.{◌≡◌};
+ghost use Rattle.vdp_state.specs.Answer.{number_in};
 ghost use Rattle.vdp_tape.specs.Number.{capacity as capacity_of};
 ghost use Rattle.vdp_tape.specs.OneStep.{Numbered};
 
-use vdp_state::answer::{BAD_BUFFER, BAD_STATE, DONE, TAPE_FULL};
+use vdp_state::answer::Refusal;
 
 pub const RECORD_SIZE: usize = 32;
 
@@ -14,23 +15,25 @@ pub fn capacity(tape: &[u8]) -> usize
     tape.len() / RECORD_SIZE
 }
 
-// The number of a recorded call of so many steps, from that of its plain form.
-pub fn with_tape(plain: u8, tape: &[u8], count: usize, steps: u32) -> u8
-    ensures { Numbered plain count (capacity_of tape.now) steps result }
+// Whether a recorded call of so many steps is refused, from whether its plain form is.
+pub fn with_tape(
+    plain: Result<(), Refusal>,
+    tape: &[u8],
+    count: usize,
+    steps: u32,
+) -> Result<(), Refusal>
+    ensures { Numbered (number_in plain) count (capacity_of tape.now) steps (number_in result) }
 {
     let room = capacity(tape);
-    if plain == BAD_STATE {
-        return BAD_STATE;
-    }
-    if room < count {
-        return BAD_BUFFER;
-    }
-    if plain != DONE {
+    if plain == Err(Refusal::BadState) {
         return plain;
     }
-    if room - count < steps as usize {
-        TAPE_FULL
-    } else {
-        DONE
+    if room < count {
+        return Err(Refusal::BadBuffer);
     }
+    plain?;
+    if room - count < steps as usize {
+        return Err(Refusal::TapeFull);
+    }
+    Ok(())
 }

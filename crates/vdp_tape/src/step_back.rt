@@ -1,35 +1,30 @@
 // Step back (definition, The tape): the top k records undone, from the top down.
 ghost use Rattle.std.specs.Prelude.{◌≡◌, ◌≤◌};
+ghost use Rattle.std.specs.Slice.Exact.{rchunks_exact_size, rchunks_exact_steps};
+ghost use Rattle.std.proofs.lemmas.Iterator.{YieldsList};
+ghost use Rattle.vdp_state.specs.Answer.{number_in};
 ghost use Rattle.vdp_state.specs.State.{chip};
 ghost use Rattle.vdp_tape.specs.Number.{capacity as capacity_of};
-ghost use Rattle.vdp_tape.specs.Recorder.{recorder, tape_outcome};
-ghost use Rattle.vdp_tape.specs.StepBack.{top_good, undo as undone, back_number, step_back};
+ghost use Rattle.vdp_tape.specs.Recorder.{recorder, tape_answer_of, tape_outcome};
+ghost use Rattle.vdp_tape.specs.StepBack.{top_records, undo as undone, back_number, step_back};
 
 use crate::number::{RECORD_SIZE, capacity};
 use crate::record::{good_record, step_of};
-use crate::recorder::TapeAnswer;
+use crate::recorder::Recorded;
+use std::slice::RChunksExact;
 use vdp_ports::refusal::VRAM_SIZE;
-use vdp_state::answer::{BAD_BUFFER, BAD_RECORD, BAD_STATE, DONE, NOTHING_THERE};
+use vdp_state::answer::Refusal;
 use vdp_state::cell::perform;
 use vdp_state::good::good;
 use vdp_state::state::State;
 
-// Whether the top k of n records are good.
-fn top_good(tape: &[u8], n: usize, k: usize) -> bool
+// The top k of n records, from the top down.
+fn top(tape: &[u8], n: usize, k: usize) -> RChunksExact<'_, u8>
     requires { (k ≤ n) × (n ≤ capacity_of tape.now) }
-    ensures { result ≡ top_good tape.now n k }
+    ensures size { rchunks_exact_size result ≡ 32 }
+    ensures records { YieldsList rchunks_exact_steps (λ x. x.now) result (top_records tape.now n k) }
 {
-    let mut left = k;
-    let mut top = n;
-    while 0 < left {
-        top -= 1;
-        left -= 1;
-        let at = RECORD_SIZE * top;
-        if !good_record(&tape[at..at + RECORD_SIZE]) {
-            return false;
-        }
-    }
-    true
+    tape[RECORD_SIZE * (n - k)..RECORD_SIZE * n].rchunks_exact(RECORD_SIZE)
 }
 
 // Undoes the top k of n records.
@@ -38,58 +33,46 @@ fn undo(s: State, vram: &mut [u8], tape: &[u8], n: usize, k: usize) -> State
     ensures { chip result vram.new ≡ undone tape.now n k (chip s vram.old) }
 {
     let mut next = s;
-    let mut left = k;
-    let mut top = n;
-    while 0 < left {
-        top -= 1;
-        left -= 1;
-        let at = RECORD_SIZE * top;
-        next = perform(next, vram, step_of(&tape[at..at + RECORD_SIZE]));
+    for record in top(tape, n, k) {
+        next = perform(next, vram, step_of(record));
     }
     next
 }
 
-// The number that a step back answers.
-fn back_number(s: State, vram: &[u8], tape: &[u8], count: usize, k: usize) -> u8
-    ensures { result ≡ back_number (recorder s vram.now tape.now count) k }
+// Whether a step back is refused.
+fn back_check(s: State, vram: &[u8], tape: &[u8], count: usize, k: usize) -> Result<(), Refusal>
+    ensures { number_in result ≡ back_number (recorder s vram.now tape.now count) k }
 {
     if !good(s) {
-        return BAD_STATE;
+        return Err(Refusal::BadState);
     }
-    if vram.len() != VRAM_SIZE {
-        return BAD_BUFFER;
-    }
-    if capacity(tape) < count {
-        return BAD_BUFFER;
+    if (vram.len() != VRAM_SIZE) | (capacity(tape) < count) {
+        return Err(Refusal::BadBuffer);
     }
     if count < k {
-        return NOTHING_THERE;
+        return Err(Refusal::NothingThere);
     }
-    if top_good(tape, count, k) {
-        DONE
-    } else {
-        BAD_RECORD
+    if !top(tape, count, k).all(good_record) {
+        return Err(Refusal::BadRecord);
     }
+    Ok(())
 }
 
 // Takes back the last k steps.
-pub fn step_back(s: State, vram: &mut [u8], tape: &[u8], count: usize, k: usize) -> TapeAnswer
-    ensures { tape_outcome result vram.new tape.now
+pub fn step_back(
+    s: State,
+    vram: &mut [u8],
+    tape: &[u8],
+    count: usize,
+    k: usize,
+) -> Result<Recorded, Refusal>
+    ensures { tape_outcome (tape_answer_of s count result) vram.new tape.now
         ≡ step_back (recorder s vram.old tape.now count) k }
 {
-    let number = back_number(s, vram, tape, count, k);
-    if number != DONE {
-        return TapeAnswer {
-            number,
-            result: 0,
-            count,
-            state: s,
-        };
-    }
-    TapeAnswer {
-        number: DONE,
+    back_check(s, vram, tape, count, k)?;
+    Ok(Recorded {
         result: 0,
         count: count - k,
         state: undo(s, vram, tape, count, k),
-    }
+    })
 }

@@ -1,13 +1,21 @@
 -- The interrupt level that is offered, and its acknowledge: definition, Frame timing, Levels; notes s4.
-use Rattle.std.specs.Prelude.{ℕ, ◌/◌, ◌%◌, cond, not, ◌&&◌, ◌||◌, List, [], ◌∷◌, eqb}
-use Rattle.vdp_state.specs.declared.answer.Answer.{Answer}
+use Rattle.std.specs.Prelude.{Option, Some, None, ℕ, ◌/◌, ◌%◌, cond, not, ◌&&◌, ◌||◌, List, [], ◌∷◌, eqb}
+use Rattle.vdp_state.specs.Answer.{Answer}
 use Rattle.vdp_state.specs.declared.state.State.{State}
 use Rattle.vdp_state.specs.declared.state.Step.{Step}
 use Rattle.vdp_state.specs.declared.state.Timing.{Timing}
 use Rattle.vdp_state.specs.Answer.{Test, gives, first, answered}
+use Rattle.vdp_timing.specs.declared.interrupt.Level.{Level}
+use Rattle.vdp_timing.specs.declared.interrupt.Level.TheVariants.{Horizontal, Vertical}
 use Rattle.vdp_ports.specs.Length.{register}
 use Rattle.vdp_ports.specs.Refusal.{bad_state}
 use Rattle.vdp_timing.specs.Timing.{timing_step, timing_read}
+
+-- the number of a level, 0 if there is none
+abbrev pub level_number : Option Level → ℕ
+level_number (Some Horizontal) = 4
+level_number (Some Vertical) = 6
+level_number None = 0
 
 -- "Level 4 is offered while horizontal is set"; "Level 6 is offered while vertical and register 1 bit 5 are set and
 -- horizontal is clear. Else no level is offered.", and that "is read as 0"

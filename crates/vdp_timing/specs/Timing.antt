@@ -1,6 +1,6 @@
 -- What the calls of frame timing share: definition, Frame timing.
 use Rattle.std.specs.Prelude.{ℕ, cond, [], ◌∷◌, eqb}
-use Rattle.vdp_state.specs.declared.answer.Answer.{Answer}
+use Rattle.vdp_state.specs.Answer.{Answer}
 use Rattle.vdp_state.specs.declared.state.State.{State}
 use Rattle.vdp_state.specs.declared.state.Step.{Step}
 use Rattle.vdp_state.specs.declared.state.Store.TheVariants.{Nothing}

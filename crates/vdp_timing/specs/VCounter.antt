@@ -1,6 +1,6 @@
 -- The V counter: definition, Frame timing, The V counter; notes s5.
 use Rattle.std.specs.Prelude.{ℕ, ◌-◌, cond, leb}
-use Rattle.vdp_state.specs.declared.answer.Answer.{Answer}
+use Rattle.vdp_state.specs.Answer.{Answer}
 use Rattle.vdp_state.specs.declared.state.State.{State}
 use Rattle.vdp_timing.specs.Timing.{timing_read}
 

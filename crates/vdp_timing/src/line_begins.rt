@@ -1,10 +1,10 @@
 // A line begins (definition, Frame timing, A line begins; notes s4).
 ghost use Rattle.std.specs.Prelude.{◌≡◌};
-ghost use Rattle.vdp_state.specs.Answer.{first};
+ghost use Rattle.vdp_state.specs.Answer.{number_in, answer_of, first};
 ghost use Rattle.vdp_timing.specs.LineBegins.{next_line, loaded as loaded_at, expires as expires_at, counted as counted_at, timing_begun, line_begins_step, line_begins_tests, line_begins};
 
 use crate::timing::timing_step;
-use vdp_state::answer::{Answer, BAD_STATE, DONE, NOT_MODELLED, answered};
+use vdp_state::answer::{Done, Refusal, made};
 use vdp_state::good::{LAST_LINE, good};
 use vdp_state::state::{State, Step, Timing};
 
@@ -69,19 +69,23 @@ pub fn line_begins_step(s: State) -> Step
     timing_step(s, timing_begun(s))
 }
 
-// The number that the beginning of a line answers.
-pub fn line_begins_number(s: State) -> u8
-    ensures { result ≡ first (line_begins_tests s) }
+// Whether the beginning of a line is refused.
+pub fn line_begins_check(s: State) -> Result<(), Refusal>
+    ensures { number_in result ≡ first (line_begins_tests s) }
 {
     if !good(s) {
-        return BAD_STATE;
+        return Err(Refusal::BadState);
     }
-    if s.pal { NOT_MODELLED } else { DONE }
+    if s.pal {
+        return Err(Refusal::NotModelled);
+    }
+    Ok(())
 }
 
 // The next line begins.
-pub fn line_begins(s: State) -> Answer
-    ensures { result ≡ line_begins s }
+pub fn line_begins(s: State) -> Result<Done, Refusal>
+    ensures { answer_of s result ≡ line_begins s }
 {
-    answered(line_begins_number(s), s, line_begins_step(s), 0)
+    line_begins_check(s)?;
+    Ok(made(s, line_begins_step(s), 0))
 }

@@ -1,10 +1,11 @@
 // The V counter (definition, Frame timing, The V counter; notes s5), kept as a table.
 ghost use Rattle.std.specs.Prelude.{◌≡◌, ◌≤◌};
+ghost use Rattle.vdp_state.specs.Answer.{answer_of};
 ghost use Rattle.vdp_state.specs.Good.{last_line};
 ghost use Rattle.vdp_timing.specs.VCounter.{v_counter_at, v_counter};
 
 use crate::timing::timing_read;
-use vdp_state::answer::Answer;
+use vdp_state::answer::{Done, Refusal};
 use vdp_state::good::LAST_LINE;
 use vdp_state::state::State;
 
@@ -39,8 +40,8 @@ fn v_counter_at(line: u16) -> u8
 }
 
 // Reads the V counter.
-pub fn v_counter(s: State) -> Answer
-    ensures { result ≡ v_counter s }
+pub fn v_counter(s: State) -> Result<Done, Refusal>
+    ensures { answer_of s result ≡ v_counter s }
 {
-    timing_read(s, v_counter_at(s.control.timing.line) as u32)
+    timing_read(s, u32::from(v_counter_at(s.control.timing.line)))
 }

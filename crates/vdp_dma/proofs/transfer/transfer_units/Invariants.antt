@@ -7,13 +7,15 @@ use Rattle.vdp_dma.specs.Transfer.{Ready}
 use Rattle.vdp_state.specs.State.{chip}
 use Rattle.vdp_dma.proofs.transfer.transfer_units.Given as goal
 
-abbrev pub invariant-loop-left : goal.invariant-loop-left
-invariant-loop-left l = (length l.vram ≡ length l.initial.vram)
-    × (length l.cartridge ≤ 4194304)
-    × (length l.ram ≡ 65536)
-    × (l.left < 2 ^ 32)
-    × (0 < l.left → Ready l.cartridge l.next.control.dma l.left)
-    × (ran l.cartridge l.ram l.left (chip l.next l.vram) ≡ ran l.cartridge l.ram l.initial.left (chip l.initial.next l.initial.vram))
+abbrev pub invariant-loop-part : goal.invariant-loop-part
+invariant-loop-part l = record {
+  cartridge : length l.memories.cartridge.now ≤ 4194304;
+  ram : length l.memories.ram.now ≡ 65536;
+  bits : l.left < 2 ^ 32;
+  ready : 0 < l.left → Ready l.memories.cartridge.now l.next.control.dma l.left;
+  made : ran l.memories.cartridge.now l.memories.ram.now l.left (chip l.next l.vram)
+      ≡ ran l.memories.cartridge.now l.memories.ram.now l.initial.left (chip l.initial.next l.initial.vram);
+}
 
-abbrev pub decreases-loop-left : goal.decreases-loop-left
-decreases-loop-left l = l.left
+abbrev pub decreases-loop-part : goal.decreases-loop-part
+decreases-loop-part l = l.left

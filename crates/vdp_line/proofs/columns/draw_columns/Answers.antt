@@ -1,63 +1,19 @@
--- The columns of one group more hold their pixel bytes, and the groups are the whole line.
-use Prim.Native.Nat.{ℕ, ◌-◌, ◌+◌, ◌*◌, ◌/◌}
-use Rattle.vdp_draw.proofs.Painted.{painted_join, painted_same}
-use Rattle.vdp_draw.specs.Painted.{painted}
-use Rattle.vdp_draw.specs.Width.{width_of}
-use Rattle.vdp_line.proofs.Groups.{whole_groups, group_pixel, group_pixel_is}
+-- With shadow and highlight and without.
+use Rattle.std.proofs.Common.{◌≡◌, true, false, sym, ◌∙◌, rules}
+use Rattle.vdp_line.proofs.Intensities.{as_mixed}
 use Rattle.vdp_line.specs.Intensity.{pixel}
-use Rattle.vdp_line.specs.Layout.{wide, shadow, backdrop}
-use Rattle.vdp_line.specs.Line.{mixed}
-use Rattle.vdp_line.specs.Plane.{row_dot}
-use Rattle.vdp_line.specs.View.{view_of, row_a_at, row_b_at}
-use Rattle.vdp_line.specs.declared.plane.Row.{Row}
-use Rattle.vdp_line.specs.declared.view.View.{View}
-use Rattle.vdp_state.specs.State.{chip}
-use borrow.Author.Rules.{rules}
-use lib.ListN.{get_or}
-use mathlib.Core.Bool.{Bool}
-use mathlib.Core.List.{List}
-use mathlib.Core.Path.{◌≡◌, sym, ap, ap₂, ◌∙◌}
-use native.Mathlib.Nat.{zero-add}
-use native.Mathlib.Omega.{arith}
+use Rattle.vdp_line.specs.Layout.{shadow, backdrop}
+use Rattle.vdp_line.specs.Mix.{mix}
 use Rattle.vdp_line.proofs.columns.draw_columns.Goals as goal
 
--- a group's columns are painted as its columns have it
-module _ (v : View) (vsram vram : List ℕ) (line : ℕ) (dots : List ℕ) (shaded : Bool) (back g : ℕ) (b a : Row) (p : b ≡ row_b_at v vsram g line) (q : a ≡ row_a_at v vsram g line) where
-  group-painted : (l : List ℕ) → painted (λ y _. pixel shaded back (row_dot vram b y) (row_dot vram a y) (get_or dots y 0)) (16 * g) (16 * g + 16 - 16 * g) l ≡ painted (λ y _. group_pixel v vsram vram line dots shaded back (y / 16) y) (16 * g) 16 l
-  group-painted l =
-      ap (λ (n : ℕ). painted (λ y _. pixel shaded back (row_dot vram b y) (row_dot vram a y) (get_or dots y 0)) (16 * g) n l) (let e : 16 * g + 16 - 16 * g ≡ 16 = omega arith in e)
-      ∙ painted_same (λ y _. pixel shaded back (row_dot vram b y) (row_dot vram a y) (get_or dots y 0)) (16 * g) l (λ y _. group_pixel v vsram vram line dots shaded back (y / 16) y) 16
-      (λ y h k. ap₂ (λ (s t : Row). pixel shaded back (row_dot vram s y) (row_dot vram t y) (get_or dots y 0)) p q ∙ ap (λ (n : ℕ). group_pixel v vsram vram line dots shaded back n y) (let e : g ≡ y / 16 = omega arith in e))
+pub returns-then-shadow : goal.returns-then-shadow
+returns-then-shadow c =
+    let on : shadow c.args.s ≡ true = sym c.shadow.ensures ∙ c.if-shadow.true in
+    let shown = c.paint_columns.ensures (pixel true (backdrop c.args.s)) (λ d r e. search rules) in
+    rw on shown
 
-pub loop-c-preserved : goal.loop-c-preserved
-loop-c-preserved c =
-    let l = c.loop-c in
-    let a = c.args in
-    let view = c.view_of-view.result in
-    let shaded = c.shadow-shadow.result in
-    let back = c.backdrop-back.result in
-    let paints : ℕ → ℕ → ℕ = λ y old. group_pixel view a.s.vsram a.vram.now a.line a.dots.now shaded back (y / 16) y in (
-      omega (arith, c.loop-c-test.true),
-      l.invariant.1,
-      search rules,
-      l.invariant.3,
-      l.invariant.4,
-      l.invariant.5,
-      c.mix_columns.ensures
-          ∙ group-painted view a.s.vsram a.vram.now a.line a.dots.now shaded back l.c c.row_b-b.result c.row_a-a.result c.row_b-b.ensures c.row_a-a.ensures l.pixels
-          ∙ ap₂ (λ (n : ℕ) (d : List ℕ). painted paints n 16 d) (sym (zero-add (16 * l.c))) l.invariant.6
-          ∙ painted_join paints 0 a.pixels.now (16 * l.c) 16
-          ∙ ap (λ (n : ℕ). painted paints 0 n a.pixels.now) (let e : 16 * l.c + 16 ≡ 16 * (l.c + 1) = omega arith in e),
-    )
-
-pub returns : goal.returns
-returns c =
-    let l = c.loop-c in
-    let a = c.args in
-    let k = chip a.s a.vram.now in
-    let all : 16 * l.c ≡ width_of (wide a.s) =
-    omega (arith, l.invariant.0, c.loop-c-test.false, (whole_groups c.wide.result).0, c.width_of.ensures) ∙ ap width_of c.wide.ensures in
-    l.invariant.6
-    ∙ ap₂ (λ (w : View) (n : ℕ). painted (λ y _. group_pixel w a.s.vsram a.vram.now a.line a.dots.now c.shadow-shadow.result c.backdrop-back.result (y / 16) y) 0 n a.pixels.now) c.view_of-view.ensures all
-    ∙ ap₂ (λ (t : Bool) (b : ℕ). painted (λ y _. group_pixel (view_of k a.line) a.s.vsram a.vram.now a.line a.dots.now t b (y / 16) y) 0 (width_of (wide a.s)) a.pixels.now) c.shadow-shadow.ensures c.backdrop-back.ensures
-    ∙ painted_same (λ y _. group_pixel (view_of k a.line) a.s.vsram a.vram.now a.line a.dots.now (shadow a.s) (backdrop a.s) (y / 16) y) 0 a.pixels.now (λ y _. mixed k a.line a.dots.now y) (width_of (wide a.s)) (λ y h j. group_pixel_is k a.line a.dots.now y)
+pub returns-else-shadow : goal.returns-else-shadow
+returns-else-shadow c =
+    let off : shadow c.args.s ≡ false = sym c.shadow.ensures ∙ c.if-shadow.false in
+    let shown = c.paint_columns-else-shadow.ensures (pixel false (backdrop c.args.s)) (λ d r e. let mixed : r ≡ mix (backdrop c.args.s) d.b d.a d.sprite = search rules in mixed ∙ sym (as_mixed (backdrop c.args.s) d.b d.a d.sprite)) in
+    rw off shown

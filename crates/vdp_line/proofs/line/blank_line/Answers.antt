@@ -1,25 +1,22 @@
 -- Every visible column is backdrop.
-use Prim.Native.Nat.{ℕ}
-use Rattle.vdp_draw.proofs.Painted.{painted_all}
-use Rattle.vdp_draw.specs.Painted.{painted}
+use Rattle.std.proofs.Common.{◌≡◌, ℕ, zero, suc, List, [], ◌∷◌, ◌++◌, length, take, drop, replicate, refl, sym, ap, ap₂, ◌∙◌, add-one, arith}
+use Rattle.std.proofs.Math.Seq.{length-take-le}
+use Rattle.std.proofs.lemmas.Grind.{replicate_next}
+use Rattle.vdp_draw.specs.Tabulate.{tabulate}
 use Rattle.vdp_draw.specs.Width.{width_of}
 use Rattle.vdp_line.proofs.Bounds.{width_small}
-use Rattle.vdp_line.proofs.Made.{made_blank}
 use Rattle.vdp_line.specs.Layout.{wide, backdrop}
-use Rattle.vdp_line.specs.Line.{line_outcome}
-use Rattle.vdp_state.specs.Answer.{done}
-use Rattle.vdp_state.specs.State.{chip, with_control}
-use Rattle.vdp_state.specs.declared.state.Control.{Control}
-use mathlib.Core.List.{List}
-use mathlib.Core.Path.{ap, ap₂, ◌∙◌}
-use native.Mathlib.Omega.{arith}
 use Rattle.vdp_line.proofs.line.blank_line.Goals as goal
 
-pub returns : goal.returns
-returns c =
+all_same : (b n : ℕ) → replicate n b ≡ tabulate (λ _. b) n
+all_same b zero = refl
+all_same b (suc n) = ap (λ (k : ℕ). replicate k b) (sym (add-one n)) ∙ replicate_next n b ∙ ap (λ (r : List ℕ). r ++ b ∷ []) (all_same b n)
+
+pub returns-clause-columns : goal.returns-clause-columns
+returns-clause-columns c =
     let a = c.args in
-    ap₂ (λ (k : Control) (px : List ℕ). line_outcome (done 0 (with_control a.s k)) px) c.blanked-control.ensures
-    (c.blank_columns.ensures
-    ∙ ap₂ (λ (n b : ℕ). painted (λ y _. b) 0 n a.pixels.now) (c.width_of.ensures ∙ ap width_of c.wide.ensures) c.backdrop.ensures
-    ∙ painted_all (λ y. backdrop a.s) (width_of (wide a.s)) a.pixels.now (omega (arith, width_small (wide a.s), c.requires.1)))
-    ∙ made_blank (chip a.s a.vram.now) a.line a.pixels.now c.requires.0
+    let px = a.pixels.now in
+    let width = width_of (wide a.s) in
+    let n : c.width_of.result ≡ width = c.width_of.ensures ∙ ap width_of c.wide.ensures in
+    let long : length (take c.width_of.result px) ≡ width = length-take-le c.width_of.result px (omega (arith, width_small (wide a.s), n)) ∙ n in
+    ap₂ ◌++◌ (c.fill.ensures.after (λ y e. e) ∙ ap₂ replicate long c.backdrop.ensures ∙ all_same (backdrop a.s) width) (ap (λ (k : ℕ). drop k px) n)

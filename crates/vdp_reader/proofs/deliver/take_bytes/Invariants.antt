@@ -1,13 +1,9 @@
 -- The invariant: what the bytes that are left lead to, after those that were taken, is what all lead to.
-use Prim.Native.Nat.{◌≤◌, ◌-◌}
-use lib.ListN.{length, drop}
-use mathlib.Core.Path.{◌≡◌}
-use Rattle.vdp_reader.specs.Deliver.{reach}
-use Rattle.vdp_reader.proofs.Reaches.{ahead}
+use Rattle.std.proofs.Common.{◌≡◌, ◌+◌, drop}
+use Rattle.vdp_reader.specs.Deliver.{last_taken, reach}
 use Rattle.vdp_reader.proofs.deliver.take_bytes.Given as goal
 
-abbrev pub invariant-loop-taken : goal.invariant-loop-taken
-invariant-loop-taken l = (l.taken ≤ length l.bytes) × (ahead l.taken (reach l.kept (drop l.taken l.bytes)) ≡ reach l.initial.kept l.bytes)
-
-abbrev pub decreases-loop-taken : goal.decreases-loop-taken
-decreases-loop-taken l = length l.bytes - l.taken
+abbrev pub invariant-loop-i : goal.invariant-loop-i
+invariant-loop-i l =
+    let left = reach l.kept (drop l.i l.bytes) in
+    last_taken (l.i + left.taken) left.taking ≡ reach l.initial.kept l.bytes

@@ -1,14 +1,15 @@
--- The invariant: what is judged of the items from here on, with the flag so far, is what is judged of all.
-use Prim.Native.Nat.{◌≤◌, ◌-◌}
-use lib.ListN.{length}
-use mathlib.Core.Path.{◌≡◌}
-use Rattle.vdp_script.specs.Missing.{registers_judged}
-use Rattle.vdp_script.proofs.Forms.{items_at}
-use Rattle.vdp_script.proofs.Registers.{registers_after}
+-- The invariant: what is judged of the items that are left, with the flag so far, is what is judged of all.
+use Rattle.std.proofs.Common.{◌≡◌, drop}
+use Rattle.std.specs.Iterator.Adapters.{enumerate_source, enumerate_count}
+use Rattle.vdp_script.specs.Form.{items_from}
+use Rattle.vdp_script.specs.Missing.{any_missing, registers_judged}
+use Rattle.vdp_script.proofs.Judges.{registers_after}
 use Rattle.vdp_script.proofs.missing.judge_registers.Given as goal
 
-abbrev pub invariant-loop-at : goal.invariant-loop-at
-invariant-loop-at l = (l.place ≤ l.at) × (registers_after l.place l.flag (items_at l.script l.at) ≡ registers_judged l.pending (items_at l.script 1))
-
-abbrev pub decreases-loop-at : goal.decreases-loop-at
-decreases-loop-at l = length l.script - l.at
+abbrev pub invariant-loop-place : goal.invariant-loop-place
+invariant-loop-place l =
+    let left = (items_from 0 (enumerate_source l.place-iterator).rest.now).items in
+    let all = (items_from 0 (drop 1 l.script)).items in
+    (goal.iterator-loop-place).can_next l.place-iterator × (goal.iterator-loop-place).is_finite l.place-iterator
+    × (any_missing l.flag left ≡ any_missing l.pending all)
+    × (registers_after (enumerate_count l.place-iterator) l.flag left ≡ registers_judged l.pending all)

@@ -1,17 +1,10 @@
 -- The kept sprites of the walk, laid on clear columns.
-use Prim.Native.Nat.{ℕ, ◌≤◌, ◌-◌}
-use lib.Dec.{leb}
-use lib.ListN.{drop, replicate}
-use mathlib.Core.Bool.{Bool, true, false}
-use mathlib.Core.List.{List, ◌++◌}
-use mathlib.Core.Path.{◌≡◌, refl, ap, ap₂, ◌∙◌}
-use native.Mathlib.Omega.{arith}
-use Rattle.vdp_draw.specs.Tabulate.{tabulate}
+use Rattle.std.proofs.Common.{◌≡◌, ℕ, ◌-◌, Bool, true, false, leb, List, length, take, ◌++◌, drop, replicate, refl, ap, ap₂, ◌∙◌}
+use Rattle.std.proofs.lemmas.List.{length-replicate}
 use Rattle.vdp_draw.specs.Width.{width_of}
 use Rattle.vdp_sprites.proofs.Columns.{all_dots, all_collide}
 use Rattle.vdp_sprites.specs.declared.sprite_line.SpriteLine.{SpriteLine}
 use Rattle.vdp_sprites.specs.Behind.{behind_all, meets_all}
-use Rattle.vdp_sprites.specs.Column.{sprite_dot}
 use Rattle.vdp_sprites.specs.Kept.{walked}
 use Rattle.vdp_sprites.specs.Shown.{shown_from}
 use Rattle.vdp_sprites.specs.SpriteLine.{kept_sprites, shown_of, sprite_line}
@@ -19,47 +12,50 @@ use Rattle.vdp_sprites.specs.Used.{pixels_used}
 use Rattle.vdp_sprites.specs.Walk.{Walk, walk}
 use Rattle.vdp_sprites.proofs.sprite_line.sprite_line.Goals as goal
 
-few : (wide : Bool) → width_of wide ≤ 320
-few true = omega arith
-few false = omega arith
+abbrev clear : List ℕ
+clear = replicate 320 0
 
-beyond : (wide : Bool) → drop (width_of wide) (replicate {A = ℕ} 320 0) ≡ replicate (320 - width_of wide) 0
+clear_width : (wide : Bool) → take (width_of wide) clear ≡ replicate (width_of wide) 0
+clear_width true = refl
+clear_width false = refl
+
+beyond : (wide : Bool) → drop (width_of wide) clear ≡ replicate (320 - width_of wide) 0
 beyond true = refl
 beyond false = refl
 
-abbrev line_of : Walk → ℕ → ℕ → List ℕ → Bool → SpriteLine
-line_of w width used dots collision =
-    record { dots = dots; visits = w.visits; overflow = w.overflow; collision = collision; used_up = leb width used }
+within : (wide : Bool) (n : ℕ) → n ≡ width_of wide → n ≡ length (take n clear)
+within wide n e = rw (e, clear_width wide, length-replicate {A = ℕ} (width_of wide) 0) refl
 
-abbrev laid : List ℕ → ℕ → Bool → ℕ → Walk → ℕ → ℕ → SpriteLine
-laid vram base began line w width used =
-    let ss = shown_from width began false (kept_sprites vram base w) in
-    line_of w width used (behind_all vram line width ss (replicate 320 0)) (meets_all vram line width ss (replicate 320 0))
+pub slice_bounds-paint_kept-end : goal.slice_bounds-paint_kept-end
+slice_bounds-paint_kept-end c = within c.args.wide c.width_of-width.result c.width_of-width.ensures
 
-abbrev laid_of : List ℕ → ℕ → Bool → ℕ → Walk → ℕ → SpriteLine
-laid_of vram base began line w width = laid vram base began line w width (pixels_used (kept_sprites vram base w))
+-- the sprites of a walk, laid on the columns of a width that were clear
+module _ (vram : List ℕ) (base : ℕ) (began : Bool) (line : ℕ) where
+  abbrev laid : Walk → ℕ → ℕ → SpriteLine
+  laid w n used =
+      let ss = shown_from (length (take n clear)) began false (kept_sprites vram base w) in
+      record {
+        dots = behind_all vram line (length (take n clear)) ss (take n clear) ++ drop n clear;
+        visits = w.visits;
+        overflow = w.overflow;
+        collision = meets_all vram line (length (take n clear)) ss (take n clear);
+        used_up = leb n used;
+      }
 
-laid-is : (vram : List ℕ) (base : ℕ) (began : Bool) (line : ℕ) (wide : Bool) → laid_of vram base began line (walk vram base wide line) (width_of wide) ≡ sprite_line vram base wide began line
-unfolding sprite_line
-laid-is vram base began line wide =
-    let w = walk vram base wide line in
-    let ss = shown_of vram base wide began w in
-    ap₂ (line_of w (width_of wide) (pixels_used (kept_sprites vram base w)))
-    (all_dots vram line (width_of wide) ss 320 (few wide) ∙ ap (λ (r : List ℕ). tabulate (sprite_dot vram line ss) (width_of wide) ++ r) (beyond wide))
-    (all_collide vram line (width_of wide) ss 320 (few wide))
-
-pub paint_kept-collision-requires : goal.paint_kept-collision-requires
-paint_kept-collision-requires c =
-    let e = c.width_of-width.ensures in
-    let h = few c.args.wide in
-    (c.walk-w.ensures.count_bound, omega (arith, e, h), omega (arith, e, h))
+  laid_is : (wide : Bool) → let w = walk vram base wide line in laid w (width_of wide) (pixels_used (kept_sprites vram base w)) ≡ sprite_line vram base wide began line
+  unfolding sprite_line
+  laid_is wide =
+      let ss = shown_of vram base wide began (walk vram base wide line) in
+      simp (clear_width wide, beyond wide, length-replicate {A = ℕ} (width_of wide) 0, all_dots vram line (width_of wide) ss, all_collide vram line (width_of wide) ss)
 
 pub returns : goal.returns
 returns c =
-    let width = c.width_of-width in
-    let w = c.walk-w in
     let a = c.args in
-    ap₂ (line_of (walked w.result) width.result c.pixels_used-used.result) c.paint_kept-collision.ensures.dots_after c.paint_kept-collision.ensures.value
-    ∙ ap (laid a.vram.now a.base a.began a.line (walked w.result) width.result) c.pixels_used-used.ensures
-    ∙ ap₂ (laid_of a.vram.now a.base a.began a.line) w.ensures.result_value width.ensures
-    ∙ laid-is a.vram.now a.base a.began a.line a.wide
+    let w = walked c.walk-w.result in
+    let n = c.width_of-width.result in
+    let used = c.pixels_used-used.result in
+    let painted = c.paint_kept-collision.ensures in
+    ap₂ (λ (dots : List ℕ) (collision : Bool). let r : SpriteLine = record {dots = dots ++ drop n clear; visits = w.visits; overflow = w.overflow; collision = collision; used_up = leb n used} in r) painted.dots_after painted.value
+    ∙ ap (laid a.vram.now a.base a.began a.line w n) c.pixels_used-used.ensures
+    ∙ ap₂ (λ (v : Walk) (k : ℕ). laid a.vram.now a.base a.began a.line v k (pixels_used (kept_sprites a.vram.now a.base v))) c.walk-w.ensures c.width_of-width.ensures
+    ∙ laid_is a.vram.now a.base a.began a.line a.wide

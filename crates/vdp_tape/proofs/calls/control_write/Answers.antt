@@ -9,5 +9,5 @@ pub returns : goal.returns
 returns c = λ m.
     let a = c.args in
     c.without_vram.ensures m (plan_of (ControlWrite a.w) (chip a.s m))
-    (record { number = c.control_number.ensures; result = refl; one = refl; step = c.control_step.ensures })
+    (record { number = c.control_check.ensures; result = refl; one = refl; step = c.control_step.ensures })
     (control_off a.s a.w)

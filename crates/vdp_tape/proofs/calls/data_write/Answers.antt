@@ -8,4 +8,4 @@ pub returns : goal.returns
 returns c =
     let a = c.args in
     c.record_one.ensures (plan_of (DataWrite a.w) (chip a.s a.vram.now))
-    (record { number = c.data_number-number.ensures; result = refl; one = refl; step = c.data_write_step.ensures })
+    (record { number = c.data_check-check.ensures; result = refl; one = refl; step = c.data_write_step.ensures })

@@ -8,5 +8,5 @@ pub returns : goal.returns
 returns c = λ m.
     let a = c.args in
     c.without_vram.ensures m (plan_of NewFrame (chip a.s m))
-    (record { number = c.frame_number.ensures; result = refl; one = refl; step = c.frame_step.ensures })
+    (record { number = c.frame_check.ensures; result = refl; one = refl; step = c.frame_step.ensures })
     tt

@@ -8,5 +8,5 @@ pub returns : goal.returns
 returns c = λ m.
     let a = c.args in
     c.without_vram.ensures m (plan_of (Acknowledge a.level) (chip a.s m))
-    (record { number = c.acknowledge_number.ensures; result = refl; one = refl; step = c.acknowledge_step.ensures })
+    (record { number = c.acknowledge_check-check.ensures; result = refl; one = refl; step = c.acknowledge_step.ensures })
     tt

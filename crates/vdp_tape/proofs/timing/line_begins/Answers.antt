@@ -8,5 +8,5 @@ pub returns : goal.returns
 returns c = λ m.
     let a = c.args in
     c.without_vram.ensures m (plan_of LineBegins (chip a.s m))
-    (record { number = c.line_begins_number.ensures; result = refl; one = refl; step = c.line_begins_step.ensures })
+    (record { number = c.line_begins_check-check.ensures; result = refl; one = refl; step = c.line_begins_step.ensures })
     tt

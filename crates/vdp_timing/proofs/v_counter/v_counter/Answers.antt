@@ -9,4 +9,4 @@ pub returns : goal.returns
 returns c =
     let s = c.args.s in
     c.timing_read.ensures
-    ∙ by_cases (good s) (λ e. simp (e, c.v_counter_at.ensures (state_line s e))) (λ e. simp e)
+    ∙ by_cases (good s) (λ e. simp (e, c.from.ensures, c.v_counter_at.ensures (state_line s e))) (λ e. simp e)

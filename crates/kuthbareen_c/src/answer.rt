@@ -1,0 +1,173 @@
+// What a call gives to C beside the state that it was lent (definition, Calls for a host program): its number with what
+// else it has, and the state stored back where the call is done.
+ghost use Rattle.std.specs.Prelude.{◌≡◌};
+ghost use Rattle.vdp_state.specs.Answer.{answer_of};
+ghost use Rattle.vdp_tape.specs.Recorder.{tape_answer_of};
+ghost use Rattle.vdp_script.specs.Call.{item_answer_of};
+ghost use Rattle.vdp_script.specs.Form.{judged_of};
+ghost use Rattle.vdp_script.specs.Run.{run_answer_of};
+ghost use Rattle.vdp_script.specs.Write.{written_of};
+ghost use Rattle.kuthbareen_c.specs.Answer.{with_state, with_tape_state, with_item_state, with_script_state, judged_as, written_as};
+
+use vdp_script::call::ItemDone;
+use vdp_script::form::Fault;
+use vdp_script::run::ScriptAnswer;
+use vdp_state::answer::{DONE, Done, Refusal};
+use vdp_state::state::State;
+use vdp_tape::recorder::Recorded;
+
+// The number, and the word read, the units made or the visits, else 0.
+#[repr(C)]
+#[derive(Clone, Copy)]
+pub struct LentAnswer {
+    pub number: u8,
+    pub result: u32,
+}
+
+// The same of a recorded call and of a step back, with the count of records.
+#[repr(C)]
+#[derive(Clone, Copy)]
+pub struct LentTapeAnswer {
+    pub number: u8,
+    pub result: u32,
+    pub count: usize,
+}
+
+// Of a script that was run: the number, and the place of the item that was refused or how many items there are.
+#[repr(C)]
+#[derive(Clone, Copy)]
+pub struct LentScriptAnswer {
+    pub number: u8,
+    pub place: usize,
+}
+
+// Of a script that was judged, which no state is lent to: the same.
+#[repr(C)]
+#[derive(Clone, Copy)]
+pub struct LentJudged {
+    pub number: u8,
+    pub place: usize,
+}
+
+// Of one item's call: the number and the result, and the byte where the script goes on.
+#[repr(C)]
+#[derive(Clone, Copy)]
+pub struct LentItemAnswer {
+    pub number: u8,
+    pub result: u32,
+    pub next: usize,
+}
+
+// Of an item that was written: the number, and the byte after it.
+#[repr(C)]
+#[derive(Clone, Copy)]
+pub struct LentWritten {
+    pub number: u8,
+    pub next: usize,
+}
+
+pub(crate) fn lend(answer: Result<Done, Refusal>, s: &mut State) -> LentAnswer
+    ensures { with_state result s.new ≡ answer_of s.old answer }
+{
+    match answer {
+        Ok(done) => {
+            *s = done.state;
+            LentAnswer {
+                number: DONE,
+                result: done.result,
+            }
+        }
+        Err(refusal) => LentAnswer {
+            number: refusal.number(),
+            result: 0,
+        },
+    }
+}
+
+pub(crate) fn lend_recorded(
+    answer: Result<Recorded, Refusal>,
+    count: usize,
+    s: &mut State,
+) -> LentTapeAnswer
+    ensures { with_tape_state result s.new ≡ tape_answer_of s.old count answer }
+{
+    match answer {
+        Ok(recorded) => {
+            *s = recorded.state;
+            LentTapeAnswer {
+                number: DONE,
+                result: recorded.result,
+                count: recorded.count,
+            }
+        }
+        Err(refusal) => LentTapeAnswer {
+            number: refusal.number(),
+            result: 0,
+            count,
+        },
+    }
+}
+
+pub(crate) fn lend_item(
+    answer: Result<ItemDone, Refusal>,
+    at: usize,
+    s: &mut State,
+) -> LentItemAnswer
+    ensures { with_item_state result s.new ≡ item_answer_of s.old at answer }
+{
+    match answer {
+        Ok(done) => {
+            *s = done.state;
+            LentItemAnswer {
+                number: DONE,
+                result: done.result,
+                next: done.next,
+            }
+        }
+        Err(refusal) => LentItemAnswer {
+            number: refusal.number(),
+            result: 0,
+            next: at,
+        },
+    }
+}
+
+// A script's state is stored back where an item is refused, too: the calls before it are made.
+pub(crate) fn lend_script(answer: ScriptAnswer, s: &mut State) -> LentScriptAnswer
+    ensures { with_script_state result s.new ≡ run_answer_of answer }
+{
+    *s = answer.state;
+    let LentJudged { number, place } = LentJudged::from(answer.ended);
+    LentScriptAnswer { number, place }
+}
+
+impl From<Result<usize, Fault>> for LentJudged {
+    ghost from_gives = { λ answer given. judged_as given ≡ judged_of answer };
+
+    fn from(answer: Result<usize, Fault>) -> LentJudged {
+        match answer {
+            Ok(items) => LentJudged {
+                number: DONE,
+                place: items,
+            },
+            Err(fault) => LentJudged {
+                number: fault.refusal.number(),
+                place: fault.place,
+            },
+        }
+    }
+}
+
+impl From<Result<usize, Refusal>> for LentWritten {
+    ghost from_gives = { λ answer given. written_as given ≡ written_of answer };
+
+    fn from(answer: Result<usize, Refusal>) -> LentWritten {
+        match answer {
+            Ok(next) => LentWritten { number: DONE, next },
+            Err(refusal) => LentWritten {
+                number: refusal.number(),
+                next: 0,
+            },
+        }
+    }
+}

@@ -1,0 +1,23 @@
+// The DMA kinds (definition, The state).
+ghost use Rattle.std.specs.Prelude.{◌≡◌, eqb};
+ghost use Rattle.vdp_state.specs.Kind.{kind_number};
+
+use crate::state::Dma;
+
+// What DMA does, each with its number.
+#[derive(Clone, Copy, PartialEq, Eq, Debug)]
+pub enum DmaKind {
+    Idle = 0,
+    FillWaiting = 1,
+    Transfer = 2,
+    Fill = 3,
+    Copy = 4,
+}
+
+impl Dma {
+    pub fn is(self, kind: DmaKind) -> bool
+        ensures { result ≡ eqb self.kind (kind_number kind) }
+    {
+        self.kind == kind as u8
+    }
+}
