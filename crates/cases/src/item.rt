@@ -1,141 +1,129 @@
 // The items of the text: a case's name, a command, a value to show, a group, a mark, a comment.
-use crate::case::{Case, answered, group_begun, group_done, judged, marked, moved, named};
-use crate::text::{after_dot, line_end, number, onward, place_of, write_name, write_value};
+use crate::case::{Case, Marks, named};
+use crate::text::Place;
 use crate::value::value;
-use std::io::{self, Write};
+use std::convert::Infallible;
+use std::io;
 use stream::command::Command;
-use stream::machine::{SCRIPT, lent};
-use stream::session::turn;
-use stream::setup::fill;
-use stream::turn::{LINES, still};
+use stream::digest::{bytes, state};
+use stream::line::Line;
+use stream::outcome::Outcome;
+use stream::session::obey;
 use vdp_script::admitted::admitted;
-use vdp_state::cell::get_or;
 
-fn clear(
-    vram: &mut [u8],
-    ram: &mut [u8],
-    cartridge: &mut [u8],
-    tape: &mut [u8],
-    script: &mut [u8],
-) {
-    fill(vram, 0);
-    fill(ram, 0);
-    fill(cartridge, 0);
-    fill(tape, 0);
-    fill(script, 0);
-}
+// The letters of the ops 0 to 39, with a space where there is none.
+const LETTERS: &[u8; 40] = b" cCdDrsulfkpxiavoqw@y~e         !zbgnmth";
 
 // `= NAME`: a case begins.
-fn begin(c: Case, text: &[u8]) -> Case {
-    named(c, onward(onward(c.at)), line_end(text, c.at))
+fn begin(case: &mut Case<'_>) {
+    let end = case.place.line_end();
+    let name = case.place.onward(2).until(end);
+    *case = named(name, end, case.marks);
+}
+
+// Writes a name that is there, and a colon after it.
+fn write_name<R: Print>(rt: &R, name: Option<&[u8]>) -> io::Result<()> {
+    let Some(name) = name else {
+        return Ok(());
+    };
+    rt.write_all(name)?;
+    rt.write_all(b": ")
 }
 
 // `?WHICH NAME` or `?WHICH.INDEX NAME`: a value is shown.
-fn show<W: Write>(out: &mut W, c: Case, text: &[u8], vram: &[u8]) -> io::Result<Case> {
-    let which = number(text, onward(c.at));
-    let index = after_dot(text, which);
-    let end = line_end(text, c.at);
-    write_name(out, text, c.name, c.name_end)?;
-    write_name(out, text, onward(index.end), end)?;
-    write_value(out, value(c, vram, which.value, index.value))?;
-    Ok(moved(c, end))
+fn show<R: Print>(rt: &R, case: &mut Case<'_>) -> io::Result<()> {
+    let end = case.place.line_end();
+    let mut place = case.place.onward(1);
+    let which = place.number();
+    let index = place.after_dot(which);
+    write_name(rt, case.name)?;
+    write_name(rt, place.onward(1).until(end))?;
+    case.place = end;
+    let shown = value(case, which, index);
+    println!(rt; "{shown:04x}")
 }
 
 // `(TIMES`: the items up to `)` are done so often, once at least.
-fn repeat(c: Case, text: &[u8]) -> Case {
-    let times = number(text, onward(c.at));
-    group_begun(c, times.end, times.value)
+fn repeat(case: &mut Case<'_>) {
+    let mut place = case.place.onward(1);
+    case.times = place.number();
+    case.group = place;
+    case.place = place;
 }
 
-// The op of a letter: 1 to 22, and 32 to 39.
-fn op_of(letter: u8) -> u8 {
-    let i = place_of(b"cCdDrsulfkpxiavoqw@y~e!zbgnmth", letter);
-    if i < 22 {
-        (i as u8) + 1
+// `)`: a group of items has been done once more.
+fn done(case: &mut Case<'_>) {
+    if case.times <= 1 {
+        case.place = case.place.onward(1);
     } else {
-        ((i % 32) as u8) + 10
+        case.times -= 1;
+        case.place = case.group;
     }
-}
-
-// A command, and where the text goes on after it.
-#[derive(Clone, Copy)]
-struct Read {
-    command: Command,
-    end: usize,
 }
 
 // A letter and up to three numbers with dots between them: a, b and c. One number serves for all three.
-fn command(text: &[u8], at: usize) -> Read {
-    let a = number(text, onward(at));
-    let b = after_dot(text, a);
-    let c = after_dot(text, b);
-    Read {
-        command: Command {
-            op: op_of(get_or(text, at, 0)),
-            a: (a.value % 256) as u8,
-            b: (b.value % 65536) as u16,
-            c: c.value,
+fn act(case: &mut Case<'_>) {
+    let letter = case.place.byte();
+    let mut place = case.place.onward(1);
+    let a = place.number();
+    let b = place.after_dot(a);
+    let c = place.after_dot(b);
+    case.place = place;
+    let Some(op) = LETTERS.iter().position(|l| *l == letter) else {
+        return;
+    };
+    let command = Command {
+        op: op as u8,
+        a: (a % 256) as u8,
+        b: (b % 65536) as u16,
+        c,
+    };
+    let mut last = case.last;
+    let Ok(()) = obey(
+        &mut case.machine,
+        command,
+        |line| -> Result<(), Infallible> {
+            if let Line::Call { outcome, .. } = line {
+                last = outcome;
+            }
+            Ok(())
         },
-        end: c.end,
-    }
-}
-
-// A command is done; a delivery as often as it makes a call, and once more.
-fn act(
-    c: Case,
-    text: &[u8],
-    vram: &mut [u8],
-    ram: &mut [u8],
-    cartridge: &mut [u8],
-    tape: &mut [u8],
-    script: &mut [u8],
-) -> Case {
-    let read = command(text, c.at);
-    let k = read.command;
-    let mut next = c;
-    let mut left = LINES;
-    while 0 < left {
-        left -= 1;
-        let t = turn(next.machine, k, vram, ram, cartridge, tape, script);
-        let after = answered(next, t, read.end);
-        next = after;
-        left = still(left, after.machine.delivering);
-    }
-    next
+    );
+    case.last = last;
 }
 
 // `j`: the script is judged as the program `script` does it.
-fn judge(c: Case, script: &[u8]) -> Case {
-    let m = c.machine;
-    let n = lent(m.lengths[SCRIPT], script.len());
-    judged(c, admitted(&script[..n]))
+fn judge(case: &mut Case<'_>) {
+    case.last = Outcome::from(admitted(case.machine.script.lent()));
 }
 
-// What the next item does. `*` marks the state and VRAM, and `#` begins a comment.
-pub(crate) fn item<W: Write>(
-    out: &mut W,
-    c: Case,
-    text: &[u8],
-    vram: &mut [u8],
-    ram: &mut [u8],
-    cartridge: &mut [u8],
-    tape: &mut [u8],
-    script: &mut [u8],
-) -> io::Result<Case> {
-    let b = get_or(text, c.at, 0);
-    let next = match b {
-        0..=b' ' => moved(c, onward(c.at)),
-        b'=' => {
-            clear(vram, ram, cartridge, tape, script);
-            begin(c, text)
-        }
-        b'?' => show(out, c, text, vram)?,
-        b'(' => repeat(c, text),
-        b')' => group_done(c, onward(c.at)),
-        b'*' => moved(marked(c, vram), onward(c.at)),
-        b'j' => moved(judge(c, script), onward(c.at)),
-        b'#' => moved(c, line_end(text, c.at)),
-        _ => act(c, text, vram, ram, cartridge, tape, script),
+// `*`: the state and VRAM are marked, for a later case to be compared with.
+fn mark(case: &mut Case<'_>) {
+    case.marks = Marks {
+        state: state(case.machine.state),
+        vram: bytes(0, &case.machine.vram.bytes),
     };
-    Ok(next)
+}
+
+// What the next item does. `#` begins a comment.
+pub(crate) fn item<R: Print>(rt: &R, case: &mut Case<'_>) -> io::Result<()> {
+    let next = case.place.onward(1);
+    match case.place.byte() {
+        0..=b' ' => case.place = next,
+        b'=' => begin(case),
+        b'?' => show(rt, case)?,
+        b'(' => repeat(case),
+        b')' => done(case),
+        b'*' => {
+            mark(case);
+            case.place = next;
+        }
+        b'j' => {
+            judge(case);
+            case.place = next;
+        }
+        b'#' => case.place = case.place.line_end(),
+        _ => act(case),
+    }
+    Ok(())
 }

@@ -1,104 +1,74 @@
 // The text of the cases: numbers in hexadecimal digits, and the rest of a line.
-use std::io::{self, Write};
-use vdp_state::cell::get_or;
 
 // The most text that is read.
 pub(crate) const TEXT: usize = 65536;
 
-// The next place of the text.
-pub(crate) fn onward(at: usize) -> usize {
-    if at < TEXT { at + 1 } else { TEXT }
-}
-
-// A number in the text, and where it ends.
+// A place in the text.
 #[derive(Clone, Copy)]
-pub(crate) struct Numeral {
-    pub value: u32,
-    pub end: usize,
+pub(crate) struct Place<'a> {
+    text: &'a [u8],
+    at: usize,
 }
 
-const NO_DIGIT: u8 = 16;
-
-// The worth of a digit.
-fn digit(b: u8) -> u8 {
+fn digit(b: u8) -> Option<u8> {
     match b {
-        b'0'..=b'9' => b - b'0',
-        b'a'..=b'f' => b - b'a' + 10,
-        _ => NO_DIGIT,
+        b'0'..=b'9' => Some(b - b'0'),
+        b'a'..=b'f' => Some(b - b'a' + 10),
+        _ => None,
     }
 }
 
-fn with_digit(value: u32, d: u8) -> u32 {
-    (((value as u64) * 16 + (d as u64)) % 4_294_967_296) as u32
-}
+impl<'a> Place<'a> {
+    pub(crate) fn first(text: &'a [u8]) -> Self {
+        Place { text, at: 0 }
+    }
 
-// The number that begins at a place: 0 if there is no digit.
-pub(crate) fn number(text: &[u8], at: usize) -> Numeral {
-    let mut value = 0;
-    let mut end = at;
-    while end < text.len() {
-        let d = digit(text[end]);
-        if d == NO_DIGIT {
-            break;
+    // What is left of the text.
+    fn rest(self) -> &'a [u8] {
+        self.text.get(self.at..).unwrap_or_default()
+    }
+
+    // The byte at the place, 0 past the end of the text.
+    pub(crate) fn byte(self) -> u8 {
+        self.text.get(self.at).copied().unwrap_or(0)
+    }
+
+    // The place so many bytes on.
+    pub(crate) fn onward(self, n: usize) -> Self {
+        Place {
+            at: self.at.saturating_add(n).min(TEXT),
+            ..self
         }
-        value = with_digit(value, d);
-        end += 1;
     }
-    Numeral { value, end }
-}
 
-// The number after a dot; without a dot the number before it serves again.
-pub(crate) fn after_dot(text: &[u8], before: Numeral) -> Numeral {
-    let end = before.end;
-    if get_or(text, end, 0) == b'.' {
-        number(text, onward(end))
-    } else {
-        before
-    }
-}
-
-// Where the line ends that goes on at a place.
-pub(crate) fn line_end(text: &[u8], at: usize) -> usize {
-    let mut end = at;
-    while end < text.len() {
-        if text[end] == b'\n' {
-            break;
+    // Takes the number that begins at the place: 0 if there is no digit.
+    pub(crate) fn number(&mut self) -> u32 {
+        let mut value = 0u32;
+        for d in self.rest().iter().map_while(|b| digit(*b)) {
+            value = value.wrapping_mul(16).wrapping_add(u32::from(d));
+            *self = self.onward(1);
         }
-        end += 1;
+        value
     }
-    end
-}
 
-// Where a letter stands in a list of letters; past its end if nowhere.
-pub(crate) fn place_of(letters: &[u8], letter: u8) -> usize {
-    let mut i = 0;
-    while i < letters.len() {
-        if letters[i] == letter {
-            break;
+    // Takes the number after a dot; without a dot the number before it serves again.
+    pub(crate) fn after_dot(&mut self, before: u32) -> u32 {
+        if self.byte() != b'.' {
+            return before;
         }
-        i += 1;
+        *self = self.onward(1);
+        self.number()
     }
-    i
-}
 
-// Writes a part of the text, and a colon after it.
-pub(crate) fn write_name<W: Write>(
-    out: &mut W,
-    text: &[u8],
-    from: usize,
-    end: usize,
-) -> io::Result<()> {
-    if text.len() < end {
-        return Ok(());
+    // Where the line ends that goes on at the place.
+    pub(crate) fn line_end(self) -> Self {
+        let rest = self.rest();
+        let end = rest.iter().position(|b| *b == b'\n');
+        self.onward(end.unwrap_or(rest.len()))
     }
-    if from <= end {
-        out.write_all(&text[from..end])?;
-        out.write_all(b": ")?;
-    }
-    Ok(())
-}
 
-// Writes a value and ends the line.
-pub(crate) fn write_value<W: Write>(out: &mut W, value: u32) -> io::Result<()> {
-    writeln!(out, "{value:04x}")
+    // The text up to a place, if that does not come before.
+    pub(crate) fn until(self, end: Place<'a>) -> Option<&'a [u8]> {
+        self.text.get(self.at..end.at)
+    }
 }

@@ -6,7 +6,7 @@ use vdp_state::cell::{get_or, word_at};
 
 pub const COMMAND_BYTES: usize = 8;
 
-#[derive(Clone, Copy)]
+#[derive(Clone, Copy, PartialEq, Eq, Debug)]
 pub struct Command {
     pub op: u8,
     pub a: u8,
@@ -18,8 +18,8 @@ pub struct Command {
 pub fn command_of(bytes: &[u8]) -> Command
     ensures { result ≡ command_of bytes.now }
 {
-    let upper = word_at(bytes, 4) as u32;
-    let lower = word_at(bytes, 6) as u32;
+    let upper = u32::from(word_at(bytes, 4));
+    let lower = u32::from(word_at(bytes, 6));
     Command {
         op: get_or(bytes, 0, 0),
         a: get_or(bytes, 1, 0),

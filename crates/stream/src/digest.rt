@@ -4,12 +4,12 @@ ghost use Rattle.stream.specs.Digest.{step, digest as digest_of};
 
 use crate::line::Line;
 use crate::machine::Machine;
-use vdp_state::state::{Control, Dma, Flags, Port, State, Timing};
+use vdp_state::state::{Control, State};
 
 fn byte(h: u32, b: u8) -> u32
     ensures { result ≡ step h b }
 {
-    (((h as u64) * 16_777_619 + (b as u64) + 1) % 4_294_967_296) as u32
+    h.wrapping_mul(16_777_619).wrapping_add(u32::from(b) + 1)
 }
 
 // The digest that goes on from h over these bytes.
@@ -17,83 +17,48 @@ pub fn bytes(h: u32, held: &[u8]) -> u32
     ensures { result ≡ digest_of h held.now }
 {
     let mut sum = h;
-    let mut i = 0;
-    while i < held.len() {
-        sum = byte(sum, held[i]);
-        i += 1;
+    for b in held {
+        sum = byte(sum, *b);
     }
     sum
 }
 
 // Numbers go in upper byte first.
-fn word(h: u32, w: u16) -> u32 {
-    byte(byte(h, (w / 256) as u8), (w % 256) as u8)
-}
-
-fn long(h: u32, n: u32) -> u32 {
-    word(word(h, (n / 65536) as u16), (n % 65536) as u16)
-}
-
-fn truth(h: u32, t: bool) -> u32 {
-    byte(h, if t { 1 } else { 0 })
-}
-
 fn words(h: u32, held: &[u16]) -> u32 {
-    let mut sum = h;
-    let mut i = 0;
-    while i < held.len() {
-        sum = word(sum, held[i]);
-        i += 1;
-    }
-    sum
+    held.iter().fold(h, |sum, w| bytes(sum, &w.to_be_bytes()))
 }
 
-fn port(h: u32, p: Port) -> u32 {
-    truth(byte(word(h, p.address), p.code), p.pending)
-}
-
-fn dma(h: u32, d: Dma) -> u32 {
-    byte(long(long(byte(h, d.kind), d.remaining), d.source), d.fill)
-}
-
-fn flags(h: u32, f: Flags) -> u32 {
-    truth(truth(h, f.overflow), f.collision)
-}
-
-// Address, code, pending; kind, remaining, source, fill byte; overflow, collision.
-fn control(h: u32, c: Control) -> u32 {
-    flags(dma(port(h, c.port), c.dma), c.flags)
-}
-
-fn timing(h: u32, t: Timing) -> u32 {
-    truth(
-        truth(byte(word(h, t.line), t.counter), t.vertical),
-        t.horizontal,
+// The digest of the state's bytes, in their order.
+pub fn state(s: State) -> u32 {
+    let Control {
+        port,
+        dma,
+        flags,
+        timing,
+    } = s.control;
+    let mut h = words(words(bytes(0, &s.registers), &s.cram), &s.vsram);
+    h = bytes(h, &port.address.to_be_bytes());
+    h = bytes(h, &[port.code, u8::from(port.pending), dma.kind]);
+    h = bytes(h, &dma.remaining.to_be_bytes());
+    h = bytes(h, &dma.source.to_be_bytes());
+    h = byte(h, dma.fill);
+    h = bytes(h, &[flags.overflow, flags.collision, s.pal].map(u8::from));
+    h = bytes(h, &timing.line.to_be_bytes());
+    h = byte(h, timing.counter);
+    bytes(
+        h,
+        &[timing.vertical, timing.horizontal, flags.used_up].map(u8::from),
     )
 }
 
-// The state's bytes: the registers, the colour words, the scroll words, the control part but for the timing and used
-// up, PAL, the timing, and used up.
-pub fn state(s: State) -> u32 {
-    let registers = bytes(0, &s.registers);
-    let colours = words(registers, &s.cram);
-    let scrolls = words(colours, &s.vsram);
-    let pal = truth(control(scrolls, s.control), s.pal);
-    truth(timing(pal, s.control.timing), s.control.flags.used_up)
-}
-
-// The line of command 48: the digests of the state and of four buffers, and the count.
-pub(crate) fn digest_line(m: Machine, vram: &[u8], tape: &[u8]) -> Line {
-    Line {
-        numbers: [
-            48,
-            state(m.state),
-            bytes(0, vram),
-            bytes(0, &m.pixels),
-            bytes(0, &m.row),
-            bytes(0, tape),
-            m.count,
-        ],
-        length: 7,
+// Op 48.
+pub(crate) fn digests(m: &Machine) -> Line {
+    Line::Digests {
+        state: state(m.state),
+        vram: bytes(0, &m.vram.bytes),
+        pixels: bytes(0, &m.pixels.bytes),
+        row: bytes(0, &m.row.bytes),
+        tape: bytes(0, &m.tape.bytes),
+        count: m.count,
     }
 }

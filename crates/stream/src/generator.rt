@@ -5,16 +5,15 @@ ghost use Rattle.stream.specs.Generator.{next as next_number};
 fn next(x: u32) -> u32
     ensures { result ≡ next_number x }
 {
-    (((x as u64) * 1_664_525 + 1_013_904_223) % 4_294_967_296) as u32
+    x.wrapping_mul(1_664_525).wrapping_add(1_013_904_223)
 }
 
 // Every held byte, from the first on, is the generator's next one.
 pub(crate) fn scatter(held: &mut [u8], seed: u32) {
     let mut x = seed;
-    let mut i = 0;
-    while i < held.len() {
+    for byte in held {
         x = next(x);
-        held[i] = (x / 0x100_0000) as u8;
-        i += 1;
+        let [uppermost, ..] = x.to_be_bytes();
+        *byte = uppermost;
     }
 }

@@ -1,16 +1,17 @@
 // The replay stream (docs/STREAM.md): commands of 8 bytes, what is held between them, and what each does and answers.
 #![tactic(auto)]
 
-pub mod calls;
+mod calls;
 pub mod command;
 pub mod digest;
-pub mod fields;
-pub mod generator;
+mod fields;
+mod generator;
+pub mod held;
 pub mod line;
 pub mod machine;
-pub mod picture;
-pub mod reader;
-pub mod script;
+mod op;
+mod other;
+pub mod outcome;
+mod reader;
 pub mod session;
-pub mod setup;
-pub mod turn;
+mod setup;
