@@ -16,5 +16,5 @@ const READ_BYTES: usize = MOST_BYTES + 1;
 fn main(rt: HostRuntime) -> io::Result<()> {
     let mut script = [0u8; READ_BYTES];
     let n = read_full(&mut rt.reader(), &mut script)?;
-    play(&mut io::writer(&rt), &script[..n])
+    play(&rt, &script[..n])
 }

@@ -1,6 +1,6 @@
 // A script judged and its calls made, with the lines that are printed (definition, Scripts, The program).
 use crate::text::Line;
-use std::io::{self, Write};
+use std::io;
 use vdp_script::admitted::admitted;
 use vdp_script::call::call_item;
 use vdp_script::form::items_of;
@@ -9,19 +9,18 @@ use vdp_state::fresh::fresh;
 
 // Prints the line of an item. The remainders change nothing: a script of 16,384 bytes has 5,461 items at most, and a
 // result has 16 bits.
-fn print_line<W: Write>(out: &mut W, place: usize, number: u8, res: u32) -> io::Result<()> {
-    let line = Line {
+fn print_line(rt: &impl Print, place: usize, number: u8, res: u32) -> io::Result<()> {
+    rt.print(Line {
         place: (place % 65536) as u16,
         number,
         result: (res % 65536) as u16,
-    };
-    write!(out, "{line}")
+    })
 }
 
 // Makes the calls of a script that was admitted, from a fresh state and without a cartridge, up to the first that is
 // refused.
-fn play_items<W: Write>(
-    out: &mut W,
+fn play_items(
+    rt: &impl Print,
     script: &[u8],
     vram: &mut [u8],
     ram: &[u8],
@@ -31,10 +30,10 @@ fn play_items<W: Write>(
     for (place, item) in items_of(script).enumerate() {
         match call_item(state, vram, &[], ram, pixels, item) {
             Ok(done) => {
-                print_line(out, place, DONE, done.result)?;
+                print_line(rt, place, DONE, done.result)?;
                 state = done.state;
             }
-            Err(refusal) => return print_line(out, place, refusal.number(), 0),
+            Err(refusal) => return print_line(rt, place, refusal.number(), 0),
         }
     }
     Ok(())
@@ -42,12 +41,12 @@ fn play_items<W: Write>(
 
 // Runs a script with VRAM, work RAM and a pixel buffer that are all 0. It is judged as a whole first, and one that is
 // refused there prints a line of its own.
-pub(crate) fn play<W: Write>(out: &mut W, script: &[u8]) -> io::Result<()> {
+pub(crate) fn play(rt: &impl Print, script: &[u8]) -> io::Result<()> {
     if let Err(fault) = admitted(script) {
-        return print_line(out, fault.place, fault.refusal.number(), 0);
+        return print_line(rt, fault.place, fault.refusal.number(), 0);
     }
     let mut vram = [0u8; 65536];
     let ram = [0u8; 65536];
     let mut pixels = [0u8; 320];
-    play_items(out, script, &mut vram, &ram, &mut pixels)
+    play_items(rt, script, &mut vram, &ram, &mut pixels)
 }
