@@ -88,7 +88,8 @@ fn buffer_of(number: u16) -> Option<Buffer> {
     }
 }
 
-// What a command asks for; one that the page does not name asks for nothing. The numbers of the ops stand here alone.
+// What a command asks for; one that the page does not name asks for nothing. The number of an op
+// is read here alone.
 pub(crate) fn op_of(k: Command) -> Option<Op>
     ensures { named k.op ≡ false → result ≡ None }
 {

@@ -5,6 +5,11 @@ use crate::outcome::Outcome;
 use vdp_reader::deliver::deliver;
 use vdp_state::answer::number_in;
 
+// What the line of a delivery begins with, and that of each call that it makes.
+const DELIVERY: u8 = 20;
+
+const CALL: u8 = 21;
+
 // Delivers so many bytes from a byte of the lent script on, as far as it has them, with a line for each call. A script
 // has fewer items than bytes, so that no call is left out.
 pub(crate) fn deliver_bytes<E, F: FnMut(Line) -> Result<(), E>>(
@@ -33,10 +38,10 @@ pub(crate) fn deliver_bytes<E, F: FnMut(Line) -> Result<(), E>>(
         let number = number_in(&d.answer);
         let Some(result) = d.call else {
             let result = calls as u64;
-            return print(call_line(20, Outcome { number, result }, m.count));
+            return print(call_line(DELIVERY, Outcome { number, result }, m.count));
         };
         let result = u64::from(result);
-        print(call_line(21, Outcome { number, result }, m.count))?;
+        print(call_line(CALL, Outcome { number, result }, m.count))?;
     }
     Ok(())
 }
