@@ -10,7 +10,12 @@ use vdp_state::state::State;
 
 // Draws a line: its pixel bytes, and the visits as the result.
 #[unsafe(no_mangle)]
-pub extern "C" fn kuthbareen_line(s: &mut State, vram: &[u8], line: u32, pixels: &mut [u8]) -> LentAnswer
+pub extern "C" fn kuthbareen_line(
+    s: &mut State,
+    vram: &[u8],
+    line: u32,
+    pixels: &mut [u8],
+) -> LentAnswer
     ensures { line_outcome (with_state result s.new) pixels.new
         ≡ line_of (chip s.old vram.now) line pixels.old }
 {

@@ -35,7 +35,10 @@ pub extern "C" fn kuthbareen_deliver(
     ensures { deliver_outcome (with_delivered result s.new) vram.new pixels.new
         ≡ delivered reader bytes.now cartridge.now ram.now (chip s.old vram.old) pixels.old }
 {
-    lend_delivery(deliver(*s, vram, Memories { cartridge, ram }, pixels, reader, bytes), s)
+    lend_delivery(
+        deliver(*s, vram, Memories { cartridge, ram }, pixels, reader, bytes),
+        s,
+    )
 }
 
 // Tells a reader that no more bytes come.

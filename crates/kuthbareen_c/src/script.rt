@@ -30,7 +30,10 @@ pub extern "C" fn kuthbareen_run_script(
     ensures { script_outcome (with_script_state result s.new) vram.new pixels.new
         ≡ run_script script.now cartridge.now ram.now (chip s.old vram.old) pixels.old }
 {
-    lend_script(run_script(*s, vram, Memories { cartridge, ram }, pixels, script), s)
+    lend_script(
+        run_script(*s, vram, Memories { cartridge, ram }, pixels, script),
+        s,
+    )
 }
 
 // Makes the call of the item that begins at a byte of a script.
@@ -47,7 +50,11 @@ pub extern "C" fn kuthbareen_script_item(
     ensures { script_item_outcome (with_item_state result s.new) vram.new pixels.new
         ≡ script_item script.now at cartridge.now ram.now (chip s.old vram.old) pixels.old }
 {
-    lend_item(script_item(*s, vram, Memories { cartridge, ram }, pixels, script, at), at, s)
+    lend_item(
+        script_item(*s, vram, Memories { cartridge, ram }, pixels, script, at),
+        at,
+        s,
+    )
 }
 
 // Judges a script as a whole, with this pending flag.
@@ -60,7 +67,12 @@ pub extern "C" fn kuthbareen_judge_script(pending: bool, script: &[u8]) -> LentJ
 
 // Writes the item of a kind with this content at a byte of a script.
 #[unsafe(no_mangle)]
-pub extern "C" fn kuthbareen_write_item(script: &mut [u8], at: usize, kind: u8, content: u16) -> LentWritten
+pub extern "C" fn kuthbareen_write_item(
+    script: &mut [u8],
+    at: usize,
+    kind: u8,
+    content: u16,
+) -> LentWritten
     ensures { write_outcome (written_as result) script.new ≡ write_kind script.old at kind content }
 {
     write_kind(script, at, kind, content).into()

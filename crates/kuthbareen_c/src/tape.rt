@@ -105,7 +105,11 @@ pub extern "C" fn kuthbareen_recorded_status_read(
 
 // Begins a new frame.
 #[unsafe(no_mangle)]
-pub extern "C" fn kuthbareen_recorded_new_frame(s: &mut State, tape: &mut [u8], count: usize) -> LentTapeAnswer
+pub extern "C" fn kuthbareen_recorded_new_frame(
+    s: &mut State,
+    tape: &mut [u8],
+    count: usize,
+) -> LentTapeAnswer
     ensures { (m : List ℕ) → tape_outcome (with_tape_state result s.new) m tape.new
         ≡ recorded NewFrame (recorder s.old m tape.old count) }
 {
@@ -154,7 +158,11 @@ pub extern "C" fn kuthbareen_recorded_run(
         ≡ recorded (Run cartridge.now ram.now budget)
         (recorder s.old vram.old tape.old count) }
 {
-    lend_recorded(run(*s, vram, Memories { cartridge, ram }, tape, count, budget), count, s)
+    lend_recorded(
+        run(*s, vram, Memories { cartridge, ram }, tape, count, budget),
+        count,
+        s,
+    )
 }
 
 // Draws a line: its pixel bytes, and the visits as the result.

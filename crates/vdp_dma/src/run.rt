@@ -61,7 +61,11 @@ pub fn run_check(s: State, vram: &[u8], memories: Memories, budget: u32) -> Resu
     if bad_memory(vram, memories) {
         return Err(Refusal::BadBuffer);
     }
-    if lacking(s.control.dma, memories.cartridge, Words(units_made(s, budget))) {
+    if lacking(
+        s.control.dma,
+        memories.cartridge,
+        Words(units_made(s, budget)),
+    ) {
         return Err(Refusal::SourceNotLent);
     }
     Ok(())
@@ -93,12 +97,7 @@ fn accepted(s: State, vram: &mut [u8; VRAM_SIZE], memories: Memories, budget: u3
 }
 
 // Makes DMA units, at most as many as the budget; the result is how many were made.
-pub fn run(
-    s: State,
-    vram: &mut [u8],
-    memories: Memories,
-    budget: u32,
-) -> Result<Done, Refusal>
+pub fn run(s: State, vram: &mut [u8], memories: Memories, budget: u32) -> Result<Done, Refusal>
     ensures { outcome (answer_of s result) vram.new
         ≡ run_outcome (chip s vram.old) memories.entry.cartridge.now memories.entry.ram.now budget }
 {

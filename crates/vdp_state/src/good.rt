@@ -53,7 +53,5 @@ pub fn control_good(c: Control) -> bool
 pub fn good(s: State) -> bool
     ensures { result ≡ is_good s }
 {
-    all(&s.cram, |w| colour_word(w) == w)
-        & all(&s.vsram, |w| w <= 0x3ff)
-        & control_good(s.control)
+    all(&s.cram, |w| colour_word(w) == w) & all(&s.vsram, |w| w <= 0x3ff) & control_good(s.control)
 }

@@ -24,7 +24,7 @@ fn offered(s: State) -> Option<Level>
     if timing.horizontal {
         return Some(Level::Horizontal);
     }
-    if vertical { Some(Level::Vertical) } else { None }
+    vertical.then_some(Level::Vertical)
 }
 
 // The number of a level, 0 if there is none.
