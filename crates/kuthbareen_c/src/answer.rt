@@ -91,6 +91,7 @@ pub struct LentEnd {
     pub reader: Reader,
 }
 
+// Stores the state back that a call gives, for each kind of answer: each struct for C has fields of its own.
 pub(crate) fn lend(answer: Result<Done, Refusal>, s: &mut State) -> LentAnswer
     ensures { with_state result s.new ≡ answer_of s.old answer }
 {

@@ -8,11 +8,11 @@ use vdp_state::good::MOST_UNITS;
 use vdp_state::kind::DmaKind;
 use vdp_state::state::{Dma, State};
 
-// How many words a transfer moves.
+// How many words a transfer moves, and how many bytes a fill or a copy writes: two types, so that one is never taken for
+// the other.
 #[derive(Clone, Copy)]
 pub struct Words(pub u32);
 
-// How many bytes a fill or a copy writes.
 #[derive(Clone, Copy)]
 pub struct Bytes(pub u32);
 

@@ -9,7 +9,7 @@ use vdp_script::form::VERSION;
 use vdp_script::item::{Item, item_from};
 use vdp_state::cell::joined;
 
-// What a byte leads to.
+// What a byte leads to. Three ways with another content each: an Option or a Result of two of them would be no plainer.
 #[derive(Clone, Copy)]
 pub enum Taking {
     Kept(Reader),

@@ -68,7 +68,8 @@ pub fn after(s: State, t: Step) -> State
     next
 }
 
-// Performs a step on the state and VRAM.
+// Performs a step on the state and VRAM, which go apart here and in all calls: C lends them so, and many calls take no
+// VRAM.
 #[tactic(auto, unfolding(crate::specs::Cell::perform))]
 pub fn perform(s: State, vram: &mut [u8], t: Step) -> State
     ensures { chip result vram.new ≡ performed (chip s vram.old) t }

@@ -30,8 +30,8 @@ above_zero BadScript = refl
 above_zero MissingRegister = refl
 
 -- the same number, from that of the plain form: 2 comes right after 1 in the order, and 6 last
-abbrev pub with_tape : ℕ → Bool → Bool → ℕ
-with_tape plain over full = cond (eqb plain 1) 1 (cond over 2 (cond (eqb plain 0) (cond full 6 0) plain))
+abbrev pub tape_check : ℕ → Bool → Bool → ℕ
+tape_check plain over full = cond (eqb plain 1) 1 (cond over 2 (cond (eqb plain 0) (cond full 6 0) plain))
 
 -- the numbers of the order after 1 and 2 and before 6
 abbrev between : ℕ → Bool
@@ -63,14 +63,14 @@ module _ (ts : List Test) (over full : Bool) where
       (λ h. simp (is-not 2 (omega arith), six, h) (record { with_full = simp (is-not 0 (omega arith)); not_one = is-not 1 (omega arith) }))
       (λ h. simp (is-not 2 (omega arith), six, h) rest)
 
-  by_first : (h1 h2 o : Bool) (q r : ℕ) → Later q r → cond h1 1 (cond (o || h2) 2 r) ≡ with_tape (cond h1 1 (cond h2 2 q)) o full
+  by_first : (h1 h2 o : Bool) (q r : ℕ) → Later q r → cond h1 1 (cond (o || h2) 2 r) ≡ tape_check (cond h1 1 (cond h2 2 q)) o full
   by_first true h2 o q r l = refl
   by_first false true true q r l = refl
   by_first false true false q r l = refl
   by_first false false true q r l = simp l.not_one
   by_first false false false q r l = l.with_full ∙ simp l.not_one
 
-pub recorded_number_lem : (ts : List Test) (count room steps : ℕ) → recorded_number ts count room steps ≡ with_tape (first ts) (ltb room count) (ltb (room - count) steps)
+pub recorded_number_lem : (ts : List Test) (count room steps : ℕ) → recorded_number ts count room steps ≡ tape_check (first ts) (ltb room count) (ltb (room - count) steps)
 recorded_number_lem ts count room steps =
     let over = ltb room count in
     let full = ltb (room - count) steps in
@@ -81,7 +81,7 @@ pub record Accepted (plain count room steps : ℕ) : Type 0 where
   pub plain_done : plain ≡ 0
   pub fits : count + steps ≤ room
 
-pub accepted : (plain count room steps : ℕ) → with_tape plain (ltb room count) (ltb (room - count) steps) ≡ 0 → Accepted plain count room steps
+pub accepted : (plain count room steps : ℕ) → tape_check plain (ltb room count) (ltb (room - count) steps) ≡ 0 → Accepted plain count room steps
 accepted plain count room steps e =
     let one = cond_zero (eqb plain 1) 1 _ (omega arith) e in
     let two = cond_zero (ltb room count) 2 _ (omega arith) one.1 in
@@ -91,9 +91,9 @@ accepted plain count room steps e =
     record { plain_done = eqb-true plain 0 z; fits = omega (arith, ltb-false room count two.0, ltb-false (room - count) steps full.0) })
     (λ z. absurd (eqb-false plain 0 z (simp z at two.1)))
 
-pub numbered : {plain count room steps r : ℕ} → r ≡ with_tape plain (ltb room count) (ltb (room - count) steps) → Numbered plain count room steps r
+pub numbered : {plain count room steps r : ℕ} → r ≡ tape_check plain (ltb room count) (ltb (room - count) steps) → Numbered plain count room steps r
 numbered {plain} {count} {room} {steps} e =
     record {
-      is = λ ts q. e ∙ ap (λ (n : ℕ). with_tape n (ltb room count) (ltb (room - count) steps)) q ∙ sym (recorded_number_lem ts count room steps);
+      is = λ ts q. e ∙ ap (λ (n : ℕ). tape_check n (ltb room count) (ltb (room - count) steps)) q ∙ sym (recorded_number_lem ts count room steps);
       fits = λ z. (accepted plain count room steps (sym e ∙ z)).fits;
     }

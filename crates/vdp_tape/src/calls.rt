@@ -9,7 +9,7 @@ ghost use Rattle.vdp_tape.specs.OneStep.{OneStep, OffVram};
 ghost use Rattle.vdp_tape.specs.Recorded.{ControlWrite, DataWrite, DataRead, StatusRead, NewFrame, Run, recorded};
 ghost use Rattle.vdp_tape.specs.Recorder.{Plan, recorder, record_steps, tape_answer_of, tape_outcome, recorded_by};
 
-use crate::number::with_tape;
+use crate::number::tape_check;
 use crate::recorder::{Recorded, record_one, record_step};
 use vdp_dma::run::{run_check, units_made};
 use vdp_dma::source::Memories;
@@ -150,7 +150,7 @@ pub fn run(
 {
     let check = run_check(s, vram, memories, budget);
     let made = units_made(s, budget);
-    with_tape(check, tape, count, made)?;
+    tape_check(check, tape, count, made)?;
     Ok(Recorded {
         result: made,
         count: count + made as usize,

@@ -5,7 +5,7 @@ ghost use Rattle.vdp_tape.specs.Line.{line_tape_outcome, recorded_line};
 ghost use Rattle.vdp_tape.specs.Recorder.{recorder, tape_answer_of, tape_outcome};
 
 use crate::calls::without_vram;
-use crate::number::with_tape;
+use crate::number::tape_check;
 use crate::recorder::Recorded;
 use vdp_line::line::line as draw;
 use vdp_line::number::line_check;
@@ -24,7 +24,7 @@ pub fn line(
     ensures { line_tape_outcome (tape_outcome (tape_answer_of s count result) vram.now tape.new) pixels.new
         ≡ recorded_line line pixels.old (recorder s vram.now tape.old count) }
 {
-    with_tape(line_check(s, vram, line, pixels), tape, count, 1)?;
+    tape_check(line_check(s, vram, line, pixels), tape, count, 1)?;
     let drawn = draw(s, vram, line, pixels)?; // is not refused, since its check has passed
     let t = Step {
         control: drawn.state.control,

@@ -16,7 +16,7 @@ pub fn capacity(tape: &[u8]) -> usize
 }
 
 // Whether a recorded call of so many steps is refused, from whether its plain form is.
-pub fn with_tape(
+pub fn tape_check(
     plain: Result<(), Refusal>,
     tape: &[u8],
     count: usize,

@@ -6,7 +6,7 @@ ghost use Rattle.vdp_tape.specs.Number.{capacity};
 ghost use Rattle.vdp_tape.specs.OneStep.{OneStep};
 ghost use Rattle.vdp_tape.specs.Recorder.{Plan, recorder, record_step, tape_answer_of, tape_outcome, recorded_by};
 
-use crate::number::{RECORD_SIZE, with_tape};
+use crate::number::{RECORD_SIZE, tape_check};
 use crate::record::record_of;
 use vdp_state::answer::Refusal;
 use vdp_state::cell::{perform, undoing};
@@ -53,7 +53,7 @@ pub(crate) fn record_one(
         → tape_outcome (tape_answer_of s count result) vram.new tape.new
         ≡ recorded_by p (recorder s vram.old tape.old count) }
 {
-    with_tape(plain, tape, count, 1)?;
+    tape_check(plain, tape, count, 1)?;
     Ok(Recorded {
         result: res,
         count: count + 1,

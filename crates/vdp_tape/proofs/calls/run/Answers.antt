@@ -5,14 +5,14 @@ use Rattle.vdp_dma.specs.Run.{run_tests}
 use Rattle.vdp_state.specs.State.{chip}
 use Rattle.vdp_tape.proofs.calls.run.Goals as goal
 
-pub returns-in_err-with_tape : goal.returns-in_err-with_tape
-returns-in_err-with_tape c =
+pub returns-in_err-tape_check : goal.returns-in_err-tape_check
+returns-in_err-tape_check c =
     let a = c.args in
-    let number = c.with_tape.ensures.is (run_tests (chip a.s a.vram.now) a.memories.cartridge.now a.memories.ram.now a.budget) c.run_check-check.ensures in
+    let number = c.tape_check.ensures.is (run_tests (chip a.s a.vram.now) a.memories.cartridge.now a.memories.ram.now a.budget) c.run_check-check.ensures in
     grind (arith, common_steps)
 
 pub returns : goal.returns
 returns c =
     let a = c.args in
-    let number = c.with_tape.ensures.is (run_tests (chip a.s a.vram.now) a.memories.cartridge.now a.memories.ram.now a.budget) c.run_check-check.ensures in
+    let number = c.tape_check.ensures.is (run_tests (chip a.s a.vram.now) a.memories.cartridge.now a.memories.ram.now a.budget) c.run_check-check.ensures in
     grind (arith, common_steps)

@@ -26,13 +26,13 @@ module _ (made : TapeOutcome) (o : TapeOutcome) (e : made ≡ o) (drawn pixels :
       subst (λ (x : TapeOutcome). line_tape_outcome made drawn ≡ line_tape_outcome x (cond (eqb x.number 0) drawn pixels)) e
       (sym (simp (eq-eqb made.number 0 z)))
 
-pub returns-in_err-with_tape : goal.returns-in_err-with_tape
-returns-in_err-with_tape c =
+pub returns-in_err-tape_check : goal.returns-in_err-tape_check
+returns-in_err-tape_check c =
     let a = c.args in
     let before : Recorder = recorder a.s a.vram.now a.tape.now a.count in
     let plan : Plan = plan_of (Line a.line a.pixels.now) before.chip in
-    let x = c.in_err-with_tape.field-0.0 in
-    let number = ap number_in (sym c.in_err-with_tape.was) ∙ c.with_tape.ensures.is plan.tests c.line_check.ensures in
+    let x = c.in_err-tape_check.field-0.0 in
+    let number = ap number_in (sym c.in_err-tape_check.was) ∙ c.tape_check.ensures.is plan.tests c.line_check.ensures in
     let p = err_from_is_err_and c.from_residual.result c.from_residual.ensures.1 in
     rw (p.1, p.2) (line_refused _ (recorded_by plan before) (refused plan before x number) (line_pixels before.chip a.line a.pixels.now) a.pixels.now (above_zero x))
 
@@ -41,7 +41,7 @@ pub returns-in_err-drawn : goal.returns-in_err-drawn
 returns-in_err-drawn c =
     let a = c.args in
     let plan : Plan = plan_of (Line a.line a.pixels.now) (chip a.s a.vram.now) in
-    let number = ap number_in (sym c.in_ok-with_tape.was) ∙ c.with_tape.ensures.is plan.tests c.line_check.ensures in
+    let number = ap number_in (sym c.in_ok-tape_check.was) ∙ c.tape_check.ensures.is plan.tests c.line_check.ensures in
     let ok = accepted (first plan.tests) a.count (capacity a.tape.now) 1 (sym (recorded_number_lem plan.tests a.count (capacity a.tape.now) 1) ∙ sym number) in
     let x = c.in_err-drawn.field-0.0 in
     let made : line_outcome (refused_answer (number_of x) a.s) c.line.new.pixels ≡ line_made (chip a.s a.vram.now) a.line a.pixels.now = c.in_err-drawn.ensures ∙ simp ok.plain_done in
@@ -52,7 +52,7 @@ returns c =
     let a = c.args in
     let before : Recorder = recorder a.s a.vram.now a.tape.now a.count in
     let plan : Plan = plan_of (Line a.line a.pixels.now) before.chip in
-    let number = ap number_in (sym c.in_ok-with_tape.was) ∙ c.with_tape.ensures.is plan.tests c.line_check.ensures in
+    let number = ap number_in (sym c.in_ok-tape_check.was) ∙ c.tape_check.ensures.is plan.tests c.line_check.ensures in
     let ok = accepted (first plan.tests) a.count (capacity a.tape.now) 1 (sym (recorded_number_lem plan.tests a.count (capacity a.tape.now) 1) ∙ sym number) in
     let made : line_outcome (done c.in_ok-drawn.drawn.result c.in_ok-drawn.drawn.state) c.line.new.pixels ≡ line_made (chip a.s a.vram.now) a.line a.pixels.now = c.in_ok-drawn.ensures ∙ simp ok.plain_done in
     let outcome = c.without_vram.ensures a.vram.now plan

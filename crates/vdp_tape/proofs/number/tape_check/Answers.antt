@@ -10,7 +10,7 @@ use Rattle.vdp_state.specs.declared.answer.Refusal.TheVariants.{BadState, BadBuf
 use Rattle.vdp_state.specs.Answer.{number, number_in}
 use Rattle.vdp_tape.proofs.Numbers.{above_zero, numbered}
 use Rattle.vdp_tape.specs.Number.{capacity}
-use Rattle.vdp_tape.proofs.number.with_tape.Goals as goal
+use Rattle.vdp_tape.proofs.number.tape_check.Goals as goal
 
 is_one : (plain : Result (Unit {0}) Refusal) → result_eq unit.eq-value.it refusal.eq-value.it plain (Err BadState) ≡ eqb (number_in plain) 1
 is_one (Ok x) = refl
