@@ -1,6 +1,7 @@
 // A script judged and its calls made, with the lines that are printed (definition, Scripts, The program).
 use crate::text::Line;
 use std::io;
+use vdp_dma::source::Memories;
 use vdp_script::admitted::admitted;
 use vdp_script::call::call_item;
 use vdp_script::form::items_of;
@@ -26,9 +27,13 @@ fn play_items(
     ram: &[u8],
     pixels: &mut [u8],
 ) -> io::Result<()> {
+    let memories = Memories {
+        cartridge: &[],
+        ram,
+    };
     let mut state = fresh(false);
     for (place, item) in items_of(script).enumerate() {
-        match call_item(state, vram, &[], ram, pixels, item) {
+        match call_item(state, vram, memories, pixels, item) {
             Ok(done) => {
                 print_line(rt, place, DONE, done.result)?;
                 state = done.state;
