@@ -39,7 +39,7 @@ pub fn access_of(code: u8) -> Access
 fn swapped(w: u16) -> u16
     ensures { result ≡ swapped_word w }
 {
-    w % 256 * 256 + w / 256
+    w.swap_bytes()
 }
 
 // The store of a VRAM word at any address.
