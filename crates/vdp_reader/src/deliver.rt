@@ -1,8 +1,7 @@
 // Bytes that are delivered to a reader, up to the first call (definition, Scripts, The reader).
 ghost use Rattle.std.specs.Prelude.{◌≡◌};
-ghost use Rattle.vdp_state.specs.Answer.{number_in};
 ghost use Rattle.vdp_state.specs.State.{chip};
-ghost use Rattle.vdp_reader.specs.Deliver.{reach, after_call, delivery_answer_of, uncalled_with, deliver_outcome, item_reached, deliver as delivered};
+ghost use Rattle.vdp_reader.specs.Deliver.{reach, delivery_answer_of, uncalled_with, deliver_outcome, item_reached, deliver as delivered};
 
 use crate::reader::{Reader, answers, at_stage, goes_on, stopped};
 use crate::stage::Stage;
@@ -10,7 +9,7 @@ use crate::take::{Taking, take_byte};
 use vdp_script::call::call_item;
 use vdp_script::item::Item;
 use vdp_script::missing::names_missing;
-use vdp_state::answer::{Done, Refusal};
+use vdp_state::answer::Refusal;
 use vdp_state::state::State;
 
 // How many bytes were taken, and what the last of them led to.
@@ -52,16 +51,6 @@ fn take_bytes(reader: Reader, bytes: &[u8]) -> Reached
     }
 }
 
-// The reader after a call that answered so.
-fn after_call(answer: Result<(), Refusal>) -> Reader
-    ensures { result ≡ after_call (number_in answer) }
-{
-    match answer {
-        Ok(()) => at_stage(Stage::Between),
-        Err(_) => stopped(answer),
-    }
-}
-
 // A delivery that makes no call.
 fn uncalled(reader: Reader, taken: usize, s: State) -> Delivery
     ensures { delivery_answer_of result ≡ uncalled_with reader taken s }
@@ -91,18 +80,21 @@ fn deliver_item<'a>(
     if names_missing(s.control.port.pending, item) {
         return uncalled(stopped(Err(Refusal::MissingRegister)), taken, s);
     }
-    let called = call_item(s, vram, cartridge, ram, pixels, item);
-    let answer = called.map(|_| ());
-    let done = called.unwrap_or(Done {
-        result: 0,
-        state: s,
-    });
-    Delivery {
-        answer,
-        call: Some(done.result),
-        taken,
-        reader: after_call(answer),
-        state: done.state,
+    match call_item(s, vram, cartridge, ram, pixels, item) {
+        Ok(done) => Delivery {
+            answer: Ok(()),
+            call: Some(done.result),
+            taken,
+            reader: at_stage(Stage::Between),
+            state: done.state,
+        },
+        Err(refusal) => Delivery {
+            answer: Err(refusal),
+            call: Some(0),
+            taken,
+            reader: stopped(Err(refusal)),
+            state: s,
+        },
     }
 }
 
