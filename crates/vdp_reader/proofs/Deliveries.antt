@@ -15,8 +15,8 @@ use Rattle.vdp_script.specs.Call.{ItemOutcome, item_outcome, call_item}
 use Rattle.vdp_script.specs.Missing.{names_missing}
 use Rattle.vdp_reader.specs.declared.reader.Reader.{Reader}
 use Rattle.vdp_reader.specs.Deliver.{DeliveryAnswer, deliver_outcome, after_call, called, item_reached}
-use Rattle.vdp_reader.specs.Reader.{may_answer, between_items, stopped}
-use Rattle.vdp_reader.proofs.Readers.{call_answers, refusal_may, refusal_stops}
+use Rattle.vdp_reader.specs.Reader.{may_answer}
+use Rattle.vdp_reader.proofs.Readers.{call_answers, refusal_may}
 
 -- the answer of a delivery that made a call
 abbrev pub called_with : ℕ → ℕ → ℕ → Reader → State → DeliveryAnswer
@@ -33,11 +33,11 @@ module _ (cartridge ram : List ℕ) (c : Chip) (pixels : List ℕ) (i : Item) (t
       ∙ sym (simp m)
 
   module _ {vram' pixels' : List ℕ} {r : Reader} where
-    pub done_called : {result : ℕ} {s : State} → item_outcome (done result s) vram' pixels' ≡ call_item i cartridge ram c pixels → r ≡ between_items
+    pub done_called : {result : ℕ} {s : State} → item_outcome (done result s) vram' pixels' ≡ call_item i cartridge ram c pixels → r ≡ after_call 0
         → deliver_outcome (called_with 0 result taken r s) vram' pixels' ≡ item_reached i taken cartridge ram c pixels
     done_called {result} {s} e after = item_called (done result s) refl vram' pixels' e r after
 
-    pub refused_called : (refusal : Refusal) → item_outcome (refused (number refusal) c.state) vram' pixels' ≡ call_item i cartridge ram c pixels → r ≡ stopped (number refusal)
+    pub refused_called : (refusal : Refusal) → item_outcome (refused (number refusal) c.state) vram' pixels' ≡ call_item i cartridge ram c pixels → r ≡ after_call (number refusal)
         → deliver_outcome (called_with (number refusal) 0 taken r c.state) vram' pixels' ≡ item_reached i taken cartridge ram c pixels
     refused_called refusal e after =
-        item_called (refused (number refusal) c.state) (refusal_may refusal) vram' pixels' e r (after ∙ sym (refusal_stops refusal))
+        item_called (refused (number refusal) c.state) (refusal_may refusal) vram' pixels' e r after

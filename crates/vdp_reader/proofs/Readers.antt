@@ -3,7 +3,7 @@
 --     stopped_stays        a stopped reader takes no byte
 --     stopped_answers      and answers its number
 --     call_answers         after a call a reader answers the call's number
---     refusal_may, refusal_stops    a call may answer the number of a refusal, and it stops the reader
+--     refusal_may          a call may answer the number of a refusal
 --     answers_zero         a reader in its ranges answers 0 if no refusal has its number
 use Prim.Native.Nat.{ℕ}
 use mathlib.Core.Path.{◌≡◌, refl, sym, ap, ◌∙◌}
@@ -90,19 +90,6 @@ refusal_may BadRecord = refl
 refusal_may NothingThere = refl
 refusal_may BadScript = refl
 refusal_may MissingRegister = refl
-
-pub refusal_stops : (refusal : Refusal) → after_call (number refusal) ≡ stopped (number refusal)
-refusal_stops BadState = refl
-refusal_stops BadBuffer = refl
-refusal_stops Busy = refl
-refusal_stops NotModelled = refl
-refusal_stops NoSuchPlace = refl
-refusal_stops TapeFull = refl
-refusal_stops SourceNotLent = refl
-refusal_stops BadRecord = refl
-refusal_stops NothingThere = refl
-refusal_stops BadScript = refl
-refusal_stops MissingRegister = refl
 
 going_on : (a b c d may : Bool) → (((a && false) || (b && false)) || (c && false) || (d && may)) ≡ true → may ≡ true
 going_on a b c d may e = both_right d may (simp and_false at e)

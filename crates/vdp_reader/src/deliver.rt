@@ -1,7 +1,8 @@
 // Bytes that are delivered to a reader, up to the first call (definition, Scripts, The reader).
 ghost use Rattle.std.specs.Prelude.{◌≡◌};
+ghost use Rattle.vdp_state.specs.Answer.{number_in};
 ghost use Rattle.vdp_state.specs.State.{chip};
-ghost use Rattle.vdp_reader.specs.Deliver.{reach, delivery_answer_of, uncalled_with, deliver_outcome, item_reached, deliver as delivered};
+ghost use Rattle.vdp_reader.specs.Deliver.{reach, after_call, delivery_answer_of, uncalled_with, deliver_outcome, item_reached, deliver as delivered};
 
 use crate::reader::{Reader, answers, at_stage, goes_on, stopped};
 use crate::stage::Stage;
@@ -51,6 +52,16 @@ fn take_bytes(reader: Reader, bytes: &[u8]) -> Reached
     }
 }
 
+// The reader after a call that answered so.
+fn after_call(answer: Result<(), Refusal>) -> Reader
+    ensures { result ≡ after_call (number_in answer) }
+{
+    match answer {
+        Ok(()) => at_stage(Stage::Between),
+        Err(_) => stopped(answer),
+    }
+}
+
 // A delivery that makes no call.
 fn uncalled(reader: Reader, taken: usize, s: State) -> Delivery
     ensures { delivery_answer_of result ≡ uncalled_with reader taken s }
@@ -85,14 +96,14 @@ fn deliver_item<'a>(
             answer: Ok(()),
             call: Some(done.result),
             taken,
-            reader: at_stage(Stage::Between),
+            reader: after_call(Ok(())),
             state: done.state,
         },
         Err(refusal) => Delivery {
             answer: Err(refusal),
             call: Some(0),
             taken,
-            reader: stopped(Err(refusal)),
+            reader: after_call(Err(refusal)),
             state: s,
         },
     }
