@@ -75,7 +75,8 @@ fn uncalled(reader: Reader, taken: usize, s: State) -> Delivery
     }
 }
 
-// An item that is whole: its call is made, if it names no missing register. The buffers go one by one, as to `call_item`.
+// An item that is whole: its call is made, if it names no missing register. The buffers go one by one, as for
+// `call_item`.
 fn deliver_item<'a>(
     s: State,
     vram: &mut [u8],
