@@ -5,7 +5,7 @@ use vdp_dma::source::Memories;
 use vdp_script::admitted::admitted;
 use vdp_script::call::call_item;
 use vdp_script::form::items_of;
-use vdp_state::answer::{DONE, Refusal};
+use vdp_state::answer::DONE;
 use vdp_state::fresh::fresh;
 
 // Prints the line of an item. The remainders change nothing: a script of 16,384 bytes has 5,461 items at most, and a

@@ -11,7 +11,7 @@ use vdp_dma::source::Memories;
 use vdp_script::call::call_item;
 use vdp_script::item::Item;
 use vdp_script::missing::names_missing;
-use vdp_state::answer::{Done, Refusal};
+use vdp_state::answer::Refusal;
 use vdp_state::state::State;
 
 // How many bytes were taken, and what the last of them led to.
@@ -76,7 +76,8 @@ fn uncalled(reader: Reader, taken: usize, s: State) -> Delivery
     }
 }
 
-// An item that is whole: its call is made, if it names no missing register. The buffers go one by one, as to `call_item`.
+// An item that is whole: its call is made, if it names no missing register. The buffers go one by one, as for
+// `call_item`.
 fn deliver_item(
     s: State,
     vram: &mut [u8],
@@ -91,18 +92,21 @@ fn deliver_item(
     if names_missing(s.control.port.pending, item) {
         return uncalled(stopped(Err(Refusal::MissingRegister)), taken, s);
     }
-    let called = call_item(s, vram, memories, pixels, item);
-    let answer = called.map(|_| ());
-    let done = called.unwrap_or(Done {
-        result: 0,
-        state: s,
-    });
-    Delivery {
-        answer,
-        call: Some(done.result),
-        taken,
-        reader: after_call(answer),
-        state: done.state,
+    match call_item(s, vram, memories, pixels, item) {
+        Ok(done) => Delivery {
+            answer: Ok(()),
+            call: Some(done.result),
+            taken,
+            reader: after_call(Ok(())),
+            state: done.state,
+        },
+        Err(refusal) => Delivery {
+            answer: Err(refusal),
+            call: Some(0),
+            taken,
+            reader: after_call(Err(refusal)),
+            state: s,
+        },
     }
 }
 
