@@ -44,7 +44,7 @@ pub(crate) fn fill_byte(vram: &mut [u8; VRAM_SIZE], address: u16, b: u8, writes:
         ≡ stored_in vram.old (cond writes (byte_stored vram.old (inverted_place address) b) Store.Nothing) }
 {
     if writes {
-        vram[inverted(address) as usize] = b;
+        vram[usize::from(inverted(address))] = b;
     }
 }
 
@@ -55,6 +55,6 @@ pub(crate) fn copy_unit(vram: &mut [u8; VRAM_SIZE], address: u16, source: u32) -
     ensures stored { vram.new
         ≡ stored_in vram.old (byte_stored vram.old address (get_or vram.old source 0)) }
 {
-    vram[address as usize] = get_or(vram, source as usize, 0);
+    vram[usize::from(address)] = get_or(vram, source as usize, 0);
     next_byte(source)
 }

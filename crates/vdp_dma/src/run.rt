@@ -40,7 +40,8 @@ fn bad_memory(vram: &[u8], memories: Memories) -> bool
         || cartridge.len() % 2 != 0
 }
 
-// Whether a transfer lacks some of its next n words. Even sources and a cartridge below work RAM make one test do for all.
+// Whether a transfer lacks some of its next n words. Even sources and a cartridge below work RAM make one test do for
+// all.
 fn lacking(d: Dma, cartridge: &[u8], n: Words) -> bool
     ensures { result
         ≡ (eqb d.kind 2 && not (eqb n.0 0 || at_hand cartridge.now d.source n.0)) }

@@ -28,8 +28,8 @@ fn store_word(
     match store {
         Store::Nothing | Store::Register(_, _) => {}
         Store::Vram(place, w) => put_word(vram, place, w),
-        Store::Cram(i, w) => put(colours, i as usize, w),
-        Store::Vsram(i, w) => put(scrolls, i as usize, w),
+        Store::Cram(i, w) => put(colours, usize::from(i), w),
+        Store::Vsram(i, w) => put(scrolls, usize::from(i), w),
     }
 }
 
@@ -59,7 +59,7 @@ fn move_part(s: State, vram: &mut [u8; VRAM_SIZE], part: &[u8]) -> State
     }
 }
 
-// Moves n words, part by part.
+// Moves n words, part by part. A loop of its own: which part comes next is known only once the one before is moved.
 pub(crate) fn transfer_units(
     s: State,
     vram: &mut [u8; VRAM_SIZE],

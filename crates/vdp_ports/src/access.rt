@@ -14,6 +14,7 @@ pub enum Memory {
     Vsram,
 }
 
+// `Nothing` beside the two and not an Option of them: the definitions' laws go by this one enum (`access`, `written`).
 #[derive(Clone, Copy)]
 pub enum Access {
     Write(Memory),
@@ -88,9 +89,9 @@ pub fn written(access: Access, address: u16, w: u16) -> Store
 fn memory_word(memory: Memory, s: State, vram: &[u8], address: u16) -> u16
     ensures { result ≡ read_from memory (chip s vram.now) address }
 {
-    let i = (address / 2 % 64) as usize;
+    let i = usize::from(address / 2 % 64);
     match memory {
-        Memory::Vram => word_at(vram, (address - address % 2) as u32),
+        Memory::Vram => word_at(vram, u32::from(address - address % 2)),
         Memory::Cram => get_or(&s.cram, i, 0),
         Memory::Vsram => get_or(&s.vsram, i, 0),
     }

@@ -32,13 +32,14 @@ fn register_write(c: Control, w: u16) -> Step
             store: Store::Nothing,
         };
     }
+    let [_, b] = w.to_be_bytes();
     Step {
         control: Control {
             port: Port { code: 0, ..c.port },
             dma: fill_dropped(c.dma),
             ..c
         },
-        store: Store::Register(i, (w % 256) as u8),
+        store: Store::Register(i, b),
     }
 }
 
@@ -144,9 +145,16 @@ pub fn control_write(s: State, w: u16) -> Result<Done, Refusal>
     Ok(made(s, control_step(s, w), 0))
 }
 
-// Writes a byte to the control port: the byte stands in both halves of the word.
+// The word that a byte counts as, which is written to a port: the byte stands in both halves.
+pub fn byte_word(b: u8) -> u16
+    ensures { result ≡ byte_word b }
+{
+    joined(b, b)
+}
+
+// Writes a byte to the control port.
 pub fn control_write_byte(s: State, b: u8) -> Result<Done, Refusal>
     ensures { answer_of s result ≡ control_write s (byte_word b) }
 {
-    control_write(s, 257 * u16::from(b))
+    control_write(s, byte_word(b))
 }

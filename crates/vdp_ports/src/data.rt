@@ -6,6 +6,7 @@ ghost use Rattle.vdp_ports.specs.Control.{byte_word};
 ghost use Rattle.vdp_ports.specs.Data.{advanced as advanced_port, port_after, fill_begun, data_write_step, data_read_step, data_word, data_tests, data_write, data_read};
 
 use crate::access::{access_of, read_word, written};
+use crate::control::byte_word;
 use crate::length::{Bytes, fill, length};
 use crate::refusal::{VRAM_SIZE, busy};
 use vdp_state::answer::{Done, Refusal, made, made_with_vram};
@@ -36,7 +37,8 @@ fn fill_begun(s: State, w: u16) -> Dma
     ensures { result ≡ fill_begun s w }
 {
     if s.control.dma.is(DmaKind::FillWaiting) {
-        fill(Bytes(length(s)), (w / 256) as u8)
+        let [high, _] = w.to_be_bytes();
+        fill(Bytes(length(s)), high)
     } else {
         s.control.dma
     }
@@ -108,11 +110,11 @@ pub fn data_write(s: State, vram: &mut [u8], w: u16) -> Result<Done, Refusal>
     Ok(made_with_vram(s, vram, data_write_step(s, w), 0))
 }
 
-// Writes a byte to the data port: the byte stands in both halves of the word.
+// Writes a byte to the data port.
 pub fn data_write_byte(s: State, vram: &mut [u8], b: u8) -> Result<Done, Refusal>
     ensures { outcome (answer_of s result) vram.new ≡ data_write (chip s vram.old) (byte_word b) }
 {
-    data_write(s, vram, 257 * u16::from(b))
+    data_write(s, vram, byte_word(b))
 }
 
 // Reads a word from the data port.

@@ -5,11 +5,11 @@ ghost use Rattle.vdp_ports.specs.Length.{units as units_from, units_of, idle as 
 
 use vdp_state::cell::joined;
 use vdp_state::good::MOST_UNITS;
-use vdp_state::kind::DmaKind;
+use vdp_state::kind::{DmaKind, IDLE};
 use vdp_state::state::{Dma, State};
 
-// How many words a transfer moves, and how many bytes a fill or a copy writes: two types, so that one is never taken for
-// the other.
+// How many words a transfer moves, and how many bytes a fill or a copy writes: two types, so that one is never taken
+// for the other. That `transfer` and `copy` are two functions follows from it.
 #[derive(Clone, Copy)]
 pub struct Words(pub u32);
 
@@ -33,12 +33,7 @@ pub fn length(s: State) -> u32
 pub fn idle() -> Dma
     ensures { result ≡ idle_dma }
 {
-    Dma {
-        kind: DmaKind::Idle as u8,
-        remaining: 0,
-        source: 0,
-        fill: 0,
-    }
+    IDLE
 }
 
 pub fn fill_waiting() -> Dma
@@ -46,7 +41,7 @@ pub fn fill_waiting() -> Dma
 {
     Dma {
         kind: DmaKind::FillWaiting as u8,
-        ..idle()
+        ..IDLE
     }
 }
 
@@ -57,7 +52,7 @@ pub fn transfer(n: Words, source: u32) -> Dma
         kind: DmaKind::Transfer as u8,
         remaining: n.0,
         source,
-        ..idle()
+        ..IDLE
     }
 }
 
@@ -68,7 +63,7 @@ pub fn fill(n: Bytes, b: u8) -> Dma
         kind: DmaKind::Fill as u8,
         remaining: n.0,
         fill: b,
-        ..idle()
+        ..IDLE
     }
 }
 
@@ -79,6 +74,6 @@ pub fn copy(n: Bytes, source: u32) -> Dma
         kind: DmaKind::Copy as u8,
         remaining: n.0,
         source,
-        ..idle()
+        ..IDLE
     }
 }

@@ -1,6 +1,6 @@
 -- Laws of tests:
 --     by_cases, by_cond               a claim by cases on a test
---     both, both_left, both_right     of `&&`; and_true, and_false, and_assoc
+--     both, both_left, both_right     of `&&`; and_false
 --     either, none, or_true           of `||`
 --     equal_true, equal_false         of `Bool.beq`
 --     cond_zero                       a number that was not picked
@@ -29,17 +29,9 @@ both_right false b e = absurd (false≢true e)
 pub both : {a b : Bool} → a ≡ true → b ≡ true → a && b ≡ true
 both {a} {b} p q = simp (p, q)
 
-pub and_true : (a : Bool) → (a && true) ≡ a
-and_true true = refl
-and_true false = refl
-
 pub and_false : (a : Bool) → (a && false) ≡ false
 and_false true = refl
 and_false false = refl
-
-pub and_assoc : (a b c : Bool) → (a && b && c) ≡ (a && (b && c))
-and_assoc true b c = refl
-and_assoc false b c = refl
 
 pub or_true : (a : Bool) → (a || true) ≡ true
 or_true true = refl

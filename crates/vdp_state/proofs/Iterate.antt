@@ -1,9 +1,9 @@
 -- The laws of an iteration:
---     iterate_sum                               of m + n turns
---     iterate_related                           two iterations that keep in step
---     iterate_mapped                            of a mapped state
---     iterate_start, iterate_turn, iterate_end  a loop that has made i of n turns
-use Prim.Native.Nat.{ℕ, zero, suc, ◌+◌, ◌-◌, ◌<◌, ◌≤◌}
+--     iterate_sum        of m + n turns
+--     iterate_related    two iterations that keep in step
+--     iterate_mapped     of a mapped state
+--     iterate_turn       a loop that has made i of n turns
+use Prim.Native.Nat.{ℕ, zero, suc, ◌+◌, ◌-◌, ◌<◌}
 use mathlib.Core.Path.{◌≡◌, refl, ap, ◌∙◌}
 use native.Mathlib.Omega.{arith}
 use Rattle.vdp_state.specs.Cell.{iterate}
@@ -20,11 +20,5 @@ module _ {A : Type 0} (f : A → A) where
   iterate_sum zero n x = ap (λ (k : ℕ). iterate f k x) (let e : 0 + n ≡ n = omega arith in e)
   iterate_sum (suc m) n x = ap (λ (k : ℕ). iterate f k x) (let e : suc m + n ≡ suc (m + n) = omega arith in e) ∙ iterate_sum m n (f x)
 
-  pub iterate_start : (n : ℕ) (x : A) → iterate f (n - 0) x ≡ iterate f n x
-  iterate_start n x = ap (λ (k : ℕ). iterate f k x) (let e : n - 0 ≡ n = omega arith in e)
-
   pub iterate_turn : (n i : ℕ) (x : A) → i < n → iterate f (n - i) x ≡ iterate f (n - (i + 1)) (f x)
   iterate_turn n i x h = ap (λ (k : ℕ). iterate f k x) (let e : n - i ≡ suc (n - (i + 1)) = omega arith in e)
-
-  pub iterate_end : (n i : ℕ) (x : A) → n ≤ i → iterate f (n - i) x ≡ x
-  iterate_end n i x h = ap (λ (k : ℕ). iterate f k x) (let e : n - i ≡ 0 = omega arith in e)

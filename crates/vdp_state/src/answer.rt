@@ -34,7 +34,7 @@ impl Refusal {
         self as u8
     }
 
-    // The refusal that has a number.
+    // The refusal that has a number. An Option is plainer than a TryFrom, whose error nobody would read.
     pub fn of(number: u8) -> Option<Refusal>
         ensures { result ≡ refusal_of number }
     {

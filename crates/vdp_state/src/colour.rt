@@ -28,5 +28,5 @@ pub fn colour_word(w: u16) -> u16
     ensures { result ≡ colour_word w }
 {
     let parts = parts_of(w);
-    (parts.blue as u16) * 512 + (parts.green as u16) * 32 + (parts.red as u16) * 2
+    u16::from(parts.blue) * 512 + u16::from(parts.green) * 32 + u16::from(parts.red) * 2
 }

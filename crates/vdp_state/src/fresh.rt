@@ -3,8 +3,8 @@ ghost use Rattle.std.specs.Prelude.{◌≡◌};
 ghost use Rattle.vdp_state.specs.Fresh.{fresh as fresh_state};
 
 use crate::good::LAST_LINE;
-use crate::kind::DmaKind;
-use crate::state::{Control, Dma, Flags, Port, State, Timing};
+use crate::kind::IDLE;
+use crate::state::{Control, Flags, Port, State, Timing};
 
 #[tactic(auto, unfolding(crate::specs::Fresh::fresh))]
 pub fn fresh(pal: bool) -> State
@@ -20,12 +20,7 @@ pub fn fresh(pal: bool) -> State
                 code: 0,
                 pending: false,
             },
-            dma: Dma {
-                kind: DmaKind::Idle as u8,
-                remaining: 0,
-                source: 0,
-                fill: 0,
-            },
+            dma: IDLE,
             flags: Flags {
                 overflow: false,
                 collision: false,

@@ -12,8 +12,8 @@ pub const MOST_UNITS: u32 = 65536;
 // The last line of a frame.
 pub const LAST_LINE: u16 = 261;
 
-// Whether all words pass a test. Each is looked at, whatever the others are: a loop without a way out runs on many words
-// at once.
+// Whether all words pass a test. Each is looked at, whatever the others are: a loop without a way out runs on many
+// words at once.
 fn all<F: Fn(u16) -> bool>(words: &[u16], test: F) -> bool
     requires { F.IsAlwaysCallable test }
     ensures { (p : ℕ → Bool) → Tests (F.post test) p → result ≡ all p words.now }

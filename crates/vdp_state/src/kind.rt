@@ -14,6 +14,14 @@ pub enum DmaKind {
     Copy = 4,
 }
 
+// The DMA that does nothing.
+pub const IDLE: Dma = Dma {
+    kind: DmaKind::Idle as u8,
+    remaining: 0,
+    source: 0,
+    fill: 0,
+};
+
 impl Dma {
     pub fn is(self, kind: DmaKind) -> bool
         ensures { result ≡ eqb self.kind (kind_number kind) }

@@ -61,8 +61,8 @@ pub struct State {
     pub pal: bool,
 }
 
-// A cell and a content for it: a VRAM word at an even place, a colour, a scroll word or a register, or no cell. One enum
-// and not an Option of one, since a tape record numbers all five.
+// A cell and a content for it: a VRAM word at an even place, a colour, a scroll word or a register, or no cell. One
+// enum and not an Option of one: the definitions' laws go by it (`stored_in`, `present`, `kept_of`).
 #[derive(Clone, Copy)]
 pub enum Store {
     Nothing,

@@ -14,7 +14,7 @@ use crate::recorder::{Recorded, record_one, record_step};
 use vdp_dma::run::{run_check, units_made};
 use vdp_dma::source::Memories;
 use vdp_dma::unit::unit_step;
-use vdp_ports::control::{control_check, control_step};
+use vdp_ports::control::{byte_word, control_check, control_step};
 use vdp_ports::data::{data_check, data_read_step, data_word, data_write_step};
 use vdp_ports::frame::{frame_check, frame_step};
 use vdp_ports::status::{status_check, status_step, status_word};
@@ -56,7 +56,7 @@ pub fn control_write_byte(
     ensures { (m : List ℕ) → tape_outcome (tape_answer_of s count result) m tape.new
         ≡ recorded (ControlWrite (byte_word b)) (recorder s m tape.old count) }
 {
-    control_write(s, tape, count, 257 * u16::from(b))
+    control_write(s, tape, count, byte_word(b))
 }
 
 // Reads the status word.
@@ -102,7 +102,7 @@ pub fn data_write_byte(
     ensures { tape_outcome (tape_answer_of s count result) vram.new tape.new
         ≡ recorded (DataWrite (byte_word b)) (recorder s vram.old tape.old count) }
 {
-    data_write(s, vram, tape, count, 257 * u16::from(b))
+    data_write(s, vram, tape, count, byte_word(b))
 }
 
 // Reads a word from the data port.

@@ -38,8 +38,8 @@ pub(crate) fn record_step(
     perform(s, vram, t)
 }
 
-// A recorded call of one step, from whether its plain form is refused, the step and the result. A tape and its count stay
-// apart, as C lends them: a struct of both would be made in each call, to be taken apart here.
+// A recorded call of one step, from whether its plain form is refused, the step and the result. A tape and its count
+// stay apart, as C lends them: a struct of both would be made in each call, to be taken apart here.
 pub(crate) fn record_one(
     plain: Result<(), Refusal>,
     s: State,

@@ -51,8 +51,8 @@ fn acknowledged(t: Timing, level: u8) -> Timing
     }
 }
 
-// What an acknowledge decides: the interrupt of this level no longer waits. The level stays a number, since C may name one
-// that there is not, and is then refused.
+// What an acknowledge decides: the interrupt of this level no longer waits. The level stays a number, since C may name
+// one that there is not, and is then refused.
 pub fn acknowledge_step(s: State, level: u8) -> Step
     ensures { result ≡ acknowledge_step s level }
 {

@@ -6,7 +6,7 @@ ghost use Rattle.vdp_timing.specs.VCounter.{v_counter_at, v_counter};
 
 use crate::timing::timing_read;
 use vdp_state::answer::{Done, Refusal};
-use vdp_state::good::LAST_LINE;
+use vdp_state::cell::get_or;
 use vdp_state::state::State;
 
 // The V counter on each of the lines 0 to 261.
@@ -32,11 +32,7 @@ const V_COUNTER: [u8; 262] = [
 fn v_counter_at(line: u16) -> u8
     ensures { line ≤ last_line → result ≡ v_counter_at line }
 {
-    if line <= LAST_LINE {
-        V_COUNTER[line as usize]
-    } else {
-        0
-    }
+    get_or(&V_COUNTER, usize::from(line), 0)
 }
 
 // Reads the V counter.
