@@ -10,6 +10,7 @@ pub(crate) struct Place<'a> {
     at: usize,
 }
 
+// By hand: the library's `to_digit` also takes A to F, so that the program would do something else on such a text.
 fn digit(b: u8) -> Option<u8> {
     match b {
         b'0'..=b'9' => Some(b - b'0'),
@@ -41,7 +42,8 @@ impl<'a> Place<'a> {
         }
     }
 
-    // Takes the number that begins at the place: 0 if there is no digit.
+    // Takes the number that begins at the place: 0 if there is no digit. By hand too: it wraps where the library's
+    // `from_str_radix` refuses.
     pub(crate) fn number(&mut self) -> u32 {
         let mut value = 0u32;
         for d in self.rest().iter().map_while(|b| digit(*b)) {

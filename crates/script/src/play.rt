@@ -8,8 +8,8 @@ use vdp_script::form::items_of;
 use vdp_state::answer::DONE;
 use vdp_state::fresh::fresh;
 
-// Prints the line of an item. The remainders change nothing: a script of 16,384 bytes has 5,461 items at most, and a
-// result has 16 bits.
+// Prints the line of an item. No contract bounds a place or a result, so the remainders stay; they change nothing, as a
+// script has 5,461 items at most and a result 16 bits.
 fn print_line(rt: &impl Print, place: usize, number: u8, res: u32) -> io::Result<()> {
     rt.print(Line {
         place: (place % 65536) as u16,

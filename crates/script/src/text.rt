@@ -4,7 +4,7 @@ ghost use Rattle.script.specs.Text.{line_text};
 
 use std::fmt;
 
-// The place of the item, the number answered and the result.
+// The place of the item, the number answered and the result. The number stays, since it is what is printed.
 #[derive(Clone, Copy)]
 pub(crate) struct Line {
     pub place: u16,

@@ -13,6 +13,8 @@ use vdp_tape::{calls as recorded, line as recorded_line, timing as recorded_timi
 use vdp_timing::interrupt::acknowledge;
 use vdp_timing::line_begins::line_begins;
 
+// `plain_call` and `recorded_call`, `plain` and `counted` are two each: without and with the tape other calls are made,
+// and only one with the tape answers a count.
 fn plain_call(m: &mut Machine, call: ChipCall) -> Result<Done, Refusal> {
     let s = m.state;
     match call {

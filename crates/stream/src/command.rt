@@ -18,12 +18,11 @@ pub struct Command {
 pub fn command_of(bytes: &[u8]) -> Command
     ensures { result ≡ command_of bytes.now }
 {
-    let upper = u32::from(word_at(bytes, 4));
-    let lower = u32::from(word_at(bytes, 6));
+    let c = [4, 5, 6, 7].map(|i| get_or(bytes, i, 0));
     Command {
         op: get_or(bytes, 0, 0),
         a: get_or(bytes, 1, 0),
         b: word_at(bytes, 2),
-        c: upper * 65536 + lower,
+        c: u32::from_be_bytes(c),
     }
 }

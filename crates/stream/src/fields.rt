@@ -1,8 +1,8 @@
 // Op 32: one number of the state, cut to its type by a remainder.
 use vdp_state::state::State;
 
-// Sets the field of this number, one of several by its index. The numbers stand in this one match: an enum of the fields
-// would list them once more.
+// Sets the field of this number, one of several by its index. The numbers stand in this match alone: an enum of the
+// fields would list them once more.
 pub(crate) fn set_field(s: &mut State, field: u8, index: u16, c: u32) {
     let i = usize::from(index);
     let truth = c % 2 == 1;

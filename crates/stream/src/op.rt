@@ -75,6 +75,7 @@ pub(crate) enum Op {
     Digests,
 }
 
+// An `Option` is plainer than `TryFrom` here: no one would read its error, and `op_of` answers an `Option` too.
 fn buffer_of(number: u16) -> Option<Buffer> {
     match number {
         0 => Some(Buffer::Vram),
@@ -88,8 +89,7 @@ fn buffer_of(number: u16) -> Option<Buffer> {
     }
 }
 
-// What a command asks for; one that the page does not name asks for nothing. The number of an op
-// is read here alone.
+// What a command asks for; one that the page does not name asks for nothing. The number of an op is read here alone.
 pub(crate) fn op_of(k: Command) -> Option<Op>
     ensures { named k.op ≡ false → result ≡ None }
 {

@@ -1,4 +1,5 @@
-// What a call answers, as a line shows it: a number, 0 if it is done, and a result.
+// What a call answers, as a line shows it: a number, 0 if it is done, and a result. The number stays, since it is what
+// is printed; a script that is refused has a result too.
 ghost use Rattle.std.specs.Prelude.{◌≡◌};
 ghost use Rattle.stream.specs.Outcome.{outcome_of, script_outcome_of};
 
