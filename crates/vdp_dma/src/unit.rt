@@ -25,7 +25,7 @@ fn units_dma(d: Dma, n: u32, source: u32) -> Dma
 }
 
 // The control part once n units are made, changed in place: with `Control { port, dma, ..c }` a recorded unit takes 181
-// instructions and not 159, and is slower than before the pass.
+// instructions and not 159.
 pub fn units_control(mut c: Control, port: Port, n: u32, source: u32) -> Control
     ensures { result ≡ units_control c port n source }
 {
