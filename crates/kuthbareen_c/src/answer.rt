@@ -1,5 +1,5 @@
-// What a call gives to C beside the state that it was lent (definition, Calls for a host program): its number with what
-// else it has, and the state stored back where the call is done.
+// What a call gives to C beside the state that it was lent (definition, Calls for a host program). C has no Result, so
+// a number stands beside what else the call has; the state is stored back where the call is done.
 ghost use Rattle.std.specs.Prelude.{◌≡◌};
 ghost use Rattle.vdp_state.specs.Answer.{answer_of};
 ghost use Rattle.vdp_tape.specs.Recorder.{tape_answer_of};

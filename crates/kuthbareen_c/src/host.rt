@@ -16,7 +16,7 @@ pub extern "C" fn kuthbareen_colour_parts(w: u16, register0: u8) -> u32
     colour::kuthbareen_colour_parts(w, register0)
 }
 
-// Writes the pixels of a pattern name's row, left to right, and answers a number.
+// Writes the pixels of a pattern name's row, left to right, and answers a number, as C has no Result.
 #[unsafe(no_mangle)]
 pub extern "C" fn kuthbareen_pattern_row(vram: &[u8], name: u16, row: u8, pixels: &mut [u8]) -> u8
     ensures { row_outcome result pixels.new ≡ pattern_row vram.now name row pixels.old }

@@ -1,6 +1,5 @@
-// The static library that C programs link: the calls in the form where the caller lends the state (definition, Calls for
-// a host program), an export for each function of include/kuthbareen.h. Each makes the call by value and stores the state
-// back. A library of its own, since a crate is a library or a static one.
+// What C programs link (definition, Calls for a host program), apart since a crate is a library or a static library:
+// each function of include/kuthbareen.h makes the call by value on a state that is lent, and stores the state back.
 #![tactic(auto)]
 
 pub mod answer;

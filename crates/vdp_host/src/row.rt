@@ -1,5 +1,5 @@
 // The eight unflipped pixels of a pattern's row (definition, Calls for a host program and Drawing).
-ghost use Rattle.std.specs.Prelude.{◌≡◌, length};
+ghost use Rattle.std.specs.Prelude.{◌≡◌};
 ghost use Rattle.vdp_state.specs.Answer.{number_in};
 ghost use Rattle.vdp_draw.specs.Pattern.{row_pixels};
 ghost use Rattle.vdp_host.specs.Row.{row_outcome, pattern_row};
@@ -14,13 +14,10 @@ const LAST_NAME: u16 = 2047;
 
 const LAST_ROW: u8 = 7;
 
-fn draw_row(vram: &[u8], name: u16, row: u8, pixels: &mut [u8])
-    requires { length pixels.old ≡ 8 }
-    ensures { pixels.new ≡ row_pixels vram.now name row }
+fn row_pixels(vram: &[u8], name: u16, row: u8) -> [u8; ROW_SIZE]
+    ensures { result ≡ row_pixels vram.now name row }
 {
-    for column in 0..8u8 {
-        pixels[column as usize] = pattern_pixel(vram, name, row, column);
-    }
+    [0, 1, 2, 3, 4, 5, 6, 7].map(|column| pattern_pixel(vram, name, row, column))
 }
 
 // Writes the pixels of a pattern name's row, left to right.
@@ -34,6 +31,6 @@ pub fn pattern_row(vram: &[u8], name: u16, row: u8, pixels: &mut [u8]) -> Result
     if (LAST_NAME < name) | (LAST_ROW < row) {
         return Err(Refusal::NoSuchPlace);
     }
-    draw_row(vram, name, row, pixels);
+    pixels.copy_from_slice(&row_pixels(vram, name, row));
     Ok(())
 }

@@ -24,7 +24,8 @@ struct Rows {
     a: Row,
 }
 
-// Writes the 16 columns from 16 c on, where the planes show these rows.
+// Writes the 16 columns from 16 c on, where the planes show these rows. Dots and pixels go one by one, here and below:
+// the dots are lent to be read, and the pixels to be written.
 fn paint_group<F: Fn(Dots) -> u8>(
     vram: &[u8],
     rows: Rows,

@@ -24,8 +24,8 @@ impl Extent {
         self as u8
     }
 
-    // A pixel that comes round after so many cells. Each extent has a remainder of its own, which is quick by a power of
-    // two; a line took 3 to 5 % longer with a match in place of the tests.
+    // A pixel that comes round after so many cells. Each extent has a remainder of its own, which is quick by a power
+    // of two; a line took 3 to 5 % longer with a match in place of the tests.
     pub(crate) fn pixel(self, n: u32) -> u32
         ensures { result ≡ n % (8 * cells_in self) }
     {

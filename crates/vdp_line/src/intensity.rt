@@ -14,6 +14,7 @@ enum Intensity {
 }
 
 impl Intensity {
+    // What it adds: a method with a name, as `From` would not say of what the number is.
     fn number(self) -> u8
         ensures { result ≡ intensity_in self }
     {

@@ -76,7 +76,7 @@ pub(crate) fn base_sprites(s: State) -> u16
     base_by_width(s, s.registers[5] % 128, 512)
 }
 
-// How far a plane reaches, from its code: 0, 1 or 3.
+// How far a plane reaches, from its code: 0, 1 or 3. No `From`: a code of register 16 is not the extent as a number.
 pub(crate) fn cells(code: u8) -> Extent
     ensures { cells_in result ≡ cells_of code }
 {

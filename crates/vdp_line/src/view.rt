@@ -27,6 +27,7 @@ pub(crate) struct View {
     pub b: Scrolled,
     pub window: Plane,
     pub stepped: bool,
+    // No enum of these three: `side` asks rows and columns alike, and would stay for the rows beside an enum's match.
     pub whole: bool,
     pub beyond: bool,
     pub edge: u8,
@@ -78,7 +79,7 @@ fn scroll_word(stepped: bool, name: PlaneName, c: u8) -> usize
     }
 }
 
-// The row of a plane there.
+// The row of a plane there. VSRAM, c and line go one by one, here and below: each call would make a struct anew.
 fn scrolled_row(p: Scrolled, stepped: bool, name: PlaneName, vsram: &[u16], c: u8, line: u8) -> Row
     ensures { row_in result
         ≡ scrolled_row (scrolled_in p) stepped (plane_number name) vsram.now c line }

@@ -20,7 +20,7 @@ fn noticed(reader: Reader) -> Reader
     if !goes_on(reader) {
         return reader;
     }
-    if reader.stage == Stage::Between as u8 {
+    if reader.is(Stage::Between) {
         stopped(Ok(()))
     } else {
         stopped(Err(Refusal::BadScript))

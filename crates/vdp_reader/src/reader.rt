@@ -1,11 +1,11 @@
 // What a reader keeps between deliveries (definition, Scripts, The reader).
-ghost use Rattle.std.specs.Prelude.{◌≡◌};
+ghost use Rattle.std.specs.Prelude.{◌≡◌, eqb};
 ghost use Rattle.vdp_state.specs.Answer.{number_in};
 ghost use Rattle.vdp_reader.specs.Reader.{has_content, may_answer, at_stage as in_stage, started as started_anew, stopped as stopped_with, in_range, goes_on, answers as answers_of};
 ghost use Rattle.vdp_reader.specs.Stage.{stage_number};
 
 use crate::stage::Stage;
-use vdp_script::item::{Item, item_from};
+use vdp_script::item::item_from;
 use vdp_state::answer::{DONE, Refusal, number_in};
 
 // The number of a stage, what is kept of an unfinished item, and, stopped, the number that it answers. All are numbers,
@@ -19,14 +19,20 @@ pub struct Reader {
     pub number: u8,
 }
 
-// Whether items of a kind have a content.
+impl Reader {
+    // Whether a reader is in a stage.
+    pub(crate) fn is(self, stage: Stage) -> bool
+        ensures { result ≡ eqb self.stage (stage_number stage) }
+    {
+        self.stage == stage as u8
+    }
+}
+
+// Whether items of a kind have a content; the kind is a number, since any byte may come.
 pub(crate) fn has_content(kind: u8) -> bool
     ensures { result ≡ has_content kind }
 {
-    matches!(
-        item_from(kind, 0),
-        Some(Item::ControlWord(_) | Item::DataWord(_) | Item::Run(_) | Item::Line(_))
-    )
+    item_from(kind, 0).is_some_and(|item| item.content().is_some())
 }
 
 // A reader in a stage that keeps nothing else.
@@ -84,7 +90,7 @@ pub fn in_range(reader: Reader) -> bool
 pub(crate) fn goes_on(reader: Reader) -> bool
     ensures { result ≡ goes_on reader }
 {
-    in_range(reader) & (reader.stage != Stage::Stopped as u8)
+    in_range(reader) & !reader.is(Stage::Stopped)
 }
 
 // What a call answers that leaves this reader.

@@ -16,7 +16,8 @@ pub(crate) enum Stage {
 }
 
 impl Stage {
-    // The stage that has a number.
+    // The stage that has a number. An Option is plainer than `TryFrom`, whose error nobody would read: a reader with
+    // such a number is refused as one outside its ranges.
     pub(crate) fn of(number: u8) -> Option<Stage>
         ensures { result ≡ stage_of number }
     {

@@ -44,7 +44,7 @@ fn short_item(kind: u8) -> Taking
     ensures { result ≡ short_item kind }
 {
     match item_from(kind, 0) {
-        Some(item @ (Item::DataRead | Item::StatusRead | Item::NewFrame)) => Taking::Whole(item),
+        Some(item) if item.content().is_none() => Taking::Whole(item),
         _ => Taking::Faulty,
     }
 }

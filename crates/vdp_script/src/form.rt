@@ -57,7 +57,8 @@ fn judge_items(script: &[u8]) -> Result<usize, Fault>
     let mut items = items_of(script);
     let mut place = 0;
 
-    // `count` would not tell which bytes are left then.
+    // Tried, and the proof did not close: after `items.by_ref().count()` or a `for` over `&mut items` no clause says
+    // what `items` is, and so which bytes are left.
     while items.next().is_some() {
         place += 1;
     }

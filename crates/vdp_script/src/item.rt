@@ -25,7 +25,7 @@ const HEAD_BYTES: usize = 3;
 const CONTENT_BYTES: usize = 2;
 
 impl Item {
-    // The number of its kind, which is a byte of a script.
+    // The number of its kind, which is a byte of a script: no enum, since any byte may come there.
     pub(crate) fn kind(self) -> u8
         ensures { result ≡ kind_of self }
     {
@@ -41,7 +41,7 @@ impl Item {
     }
 
     // The number that is an item's content, if it has one.
-    pub(crate) fn content(self) -> Option<u16>
+    pub fn content(self) -> Option<u16>
         ensures { content_bytes result ≡ content_of self }
     {
         match self {
