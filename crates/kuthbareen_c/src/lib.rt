@@ -1,8 +1,7 @@
-// What C programs link (definition, Calls for a host program), apart since a crate is a library or a static library:
-// each function of include/kuthbareen.h makes the call by value on a state that is lent, and stores the state back.
+// The static library that C programs link: an export for each function of include/kuthbareen.h, with the contract of the
+// function that it calls in `vdp_lent` or `vdp_host`. A library of its own, since a crate is a library or a static one.
 #![tactic(auto)]
 
-pub mod answer;
 pub mod fresh;
 pub mod host;
 pub mod line;

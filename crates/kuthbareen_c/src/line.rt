@@ -1,11 +1,11 @@
-// The line over a state that is lent (definition, Drawing).
+// The line over a state that is lent, for C programs.
 ghost use Rattle.std.specs.Prelude.{◌≡◌};
 ghost use Rattle.vdp_state.specs.State.{chip};
 ghost use Rattle.vdp_line.specs.Line.{line_outcome, line as line_of};
-ghost use Rattle.kuthbareen_c.specs.Answer.{with_state};
+ghost use Rattle.vdp_lent.specs.Answer.{with_state};
 
-use crate::answer::{LentAnswer, lend};
-use vdp_line::line::line as draw;
+use vdp_lent::answer::LentAnswer;
+use vdp_lent::line;
 use vdp_state::state::State;
 
 // Draws a line: its pixel bytes, and the visits as the result.
@@ -19,5 +19,5 @@ pub extern "C" fn kuthbareen_line(
     ensures { line_outcome (with_state result s.new) pixels.new
         ≡ line_of (chip s.old vram.now) line pixels.old }
 {
-    lend(draw(*s, vram, line, pixels), s)
+    line::kuthbareen_line(s, vram, line, pixels)
 }

@@ -1,4 +1,4 @@
-// The port accesses and the new frame over a state that is lent (definition, Ports).
+// The port accesses and the new frame over a state that is lent, for C programs.
 ghost use Rattle.std.specs.Prelude.{◌≡◌};
 ghost use Rattle.vdp_state.specs.Answer.{outcome};
 ghost use Rattle.vdp_state.specs.State.{chip};
@@ -6,13 +6,10 @@ ghost use Rattle.vdp_ports.specs.Control.{byte_word, control_write};
 ghost use Rattle.vdp_ports.specs.Data.{data_write, data_read};
 ghost use Rattle.vdp_ports.specs.Frame.{new_frame};
 ghost use Rattle.vdp_ports.specs.Status.{status_read};
-ghost use Rattle.kuthbareen_c.specs.Answer.{with_state};
+ghost use Rattle.vdp_lent.specs.Answer.{with_state};
 
-use crate::answer::{LentAnswer, lend};
-use vdp_ports::control::{control_write, control_write_byte};
-use vdp_ports::data::{data_read, data_write, data_write_byte};
-use vdp_ports::frame::new_frame;
-use vdp_ports::status::status_read;
+use vdp_lent::answer::LentAnswer;
+use vdp_lent::ports;
 use vdp_state::state::State;
 
 // Writes a word to the control port.
@@ -20,7 +17,7 @@ use vdp_state::state::State;
 pub extern "C" fn kuthbareen_control_write(s: &mut State, w: u16) -> LentAnswer
     ensures { with_state result s.new ≡ control_write s.old w }
 {
-    lend(control_write(*s, w), s)
+    ports::kuthbareen_control_write(s, w)
 }
 
 // Writes a byte to the control port: the byte stands in both halves of the word.
@@ -28,7 +25,7 @@ pub extern "C" fn kuthbareen_control_write(s: &mut State, w: u16) -> LentAnswer
 pub extern "C" fn kuthbareen_control_write_byte(s: &mut State, b: u8) -> LentAnswer
     ensures { with_state result s.new ≡ control_write s.old (byte_word b) }
 {
-    lend(control_write_byte(*s, b), s)
+    ports::kuthbareen_control_write_byte(s, b)
 }
 
 // Writes a word to the data port.
@@ -37,7 +34,7 @@ pub extern "C" fn kuthbareen_data_write(s: &mut State, vram: &mut [u8], w: u16) 
     ensures { outcome (with_state result s.new) vram.new
         ≡ data_write (chip s.old vram.old) w }
 {
-    lend(data_write(*s, vram, w), s)
+    ports::kuthbareen_data_write(s, vram, w)
 }
 
 // Writes a byte to the data port: the byte stands in both halves of the word.
@@ -46,7 +43,7 @@ pub extern "C" fn kuthbareen_data_write_byte(s: &mut State, vram: &mut [u8], b: 
     ensures { outcome (with_state result s.new) vram.new
         ≡ data_write (chip s.old vram.old) (byte_word b) }
 {
-    lend(data_write_byte(*s, vram, b), s)
+    ports::kuthbareen_data_write_byte(s, vram, b)
 }
 
 // Reads a word from the data port.
@@ -54,7 +51,7 @@ pub extern "C" fn kuthbareen_data_write_byte(s: &mut State, vram: &mut [u8], b: 
 pub extern "C" fn kuthbareen_data_read(s: &mut State, vram: &[u8]) -> LentAnswer
     ensures { with_state result s.new ≡ data_read (chip s.old vram.now) }
 {
-    lend(data_read(*s, vram), s)
+    ports::kuthbareen_data_read(s, vram)
 }
 
 // Reads the status word.
@@ -62,7 +59,7 @@ pub extern "C" fn kuthbareen_data_read(s: &mut State, vram: &[u8]) -> LentAnswer
 pub extern "C" fn kuthbareen_status_read(s: &mut State) -> LentAnswer
     ensures { with_state result s.new ≡ status_read s.old }
 {
-    lend(status_read(*s), s)
+    ports::kuthbareen_status_read(s)
 }
 
 // Begins a new frame.
@@ -70,5 +67,5 @@ pub extern "C" fn kuthbareen_status_read(s: &mut State) -> LentAnswer
 pub extern "C" fn kuthbareen_new_frame(s: &mut State) -> LentAnswer
     ensures { with_state result s.new ≡ new_frame s.old }
 {
-    lend(new_frame(*s), s)
+    ports::kuthbareen_new_frame(s)
 }

@@ -1,16 +1,14 @@
-// The reader over a state that is lent (definition, Scripts, The reader).
+// The reader over a state that is lent, for C programs.
 ghost use Rattle.std.specs.Prelude.{◌≡◌};
 ghost use Rattle.vdp_state.specs.State.{chip};
 ghost use Rattle.vdp_reader.specs.Deliver.{deliver_outcome, deliver as delivered};
 ghost use Rattle.vdp_reader.specs.End.{end_notice};
 ghost use Rattle.vdp_reader.specs.Reader.{started as started_anew};
-ghost use Rattle.kuthbareen_c.specs.Answer.{ended_as, with_delivered};
+ghost use Rattle.vdp_lent.specs.Answer.{ended_as, with_delivered};
 
-use crate::answer::{LentDelivery, LentEnd, lend_delivery};
-use vdp_dma::source::Memories;
-use vdp_reader::deliver::deliver;
-use vdp_reader::end::end_notice;
-use vdp_reader::reader::{Reader, started};
+use vdp_lent::answer::{LentDelivery, LentEnd};
+use vdp_lent::reader;
+use vdp_reader::reader::Reader;
 use vdp_state::state::State;
 
 // A reader that is started anew.
@@ -18,7 +16,7 @@ use vdp_state::state::State;
 pub extern "C" fn kuthbareen_start_reader() -> Reader
     ensures { result ≡ started_anew }
 {
-    started()
+    reader::kuthbareen_start_reader()
 }
 
 // Delivers bytes to a reader, which makes one call at most.
@@ -35,10 +33,7 @@ pub extern "C" fn kuthbareen_deliver(
     ensures { deliver_outcome (with_delivered result s.new) vram.new pixels.new
         ≡ delivered reader bytes.now cartridge.now ram.now (chip s.old vram.old) pixels.old }
 {
-    lend_delivery(
-        deliver(*s, vram, Memories { cartridge, ram }, pixels, reader, bytes),
-        s,
-    )
+    reader::kuthbareen_deliver(s, vram, cartridge, ram, pixels, reader, bytes)
 }
 
 // Tells a reader that no more bytes come.
@@ -46,5 +41,5 @@ pub extern "C" fn kuthbareen_deliver(
 pub extern "C" fn kuthbareen_end_notice(reader: Reader) -> LentEnd
     ensures { ended_as result ≡ end_notice reader }
 {
-    end_notice(reader).into()
+    reader::kuthbareen_end_notice(reader)
 }

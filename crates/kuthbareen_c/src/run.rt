@@ -1,13 +1,12 @@
-// The run over a state that is lent (definition, DMA).
+// The run over a state that is lent, for C programs.
 ghost use Rattle.std.specs.Prelude.{◌≡◌};
 ghost use Rattle.vdp_state.specs.Answer.{outcome};
 ghost use Rattle.vdp_state.specs.State.{chip};
 ghost use Rattle.vdp_dma.specs.Run.{run as run_outcome};
-ghost use Rattle.kuthbareen_c.specs.Answer.{with_state};
+ghost use Rattle.vdp_lent.specs.Answer.{with_state};
 
-use crate::answer::{LentAnswer, lend};
-use vdp_dma::run::run;
-use vdp_dma::source::Memories;
+use vdp_lent::answer::LentAnswer;
+use vdp_lent::run;
 use vdp_state::state::State;
 
 // Makes DMA units, at most as many as the budget.
@@ -22,5 +21,5 @@ pub extern "C" fn kuthbareen_run(
     ensures { outcome (with_state result s.new) vram.new
         ≡ run_outcome (chip s.old vram.old) cartridge.now ram.now budget }
 {
-    lend(run(*s, vram, Memories { cartridge, ram }, budget), s)
+    run::kuthbareen_run(s, vram, cartridge, ram, budget)
 }

@@ -1,20 +1,14 @@
-// Scripts over a state that is lent, and what a caller who makes them asks for (definition, Scripts).
+// Scripts over a state that is lent, and what a caller who makes them asks for, for C programs.
 ghost use Rattle.std.specs.Prelude.{◌≡◌};
 ghost use Rattle.vdp_state.specs.State.{chip};
 ghost use Rattle.vdp_script.specs.Call.{script_item_outcome, script_item};
 ghost use Rattle.vdp_script.specs.Judge.{judged};
 ghost use Rattle.vdp_script.specs.Run.{script_outcome, run_script};
 ghost use Rattle.vdp_script.specs.Write.{write_outcome, write_kind};
-ghost use Rattle.kuthbareen_c.specs.Answer.{judged_as, with_item_state, with_script_state, written_as};
+ghost use Rattle.vdp_lent.specs.Answer.{with_item_state, with_script_state, judged_as, written_as};
 
-use crate::answer::{
-    LentItemAnswer, LentJudged, LentScriptAnswer, LentWritten, lend_item, lend_script,
-};
-use vdp_dma::source::Memories;
-use vdp_script::call::script_item;
-use vdp_script::judge::judge_script;
-use vdp_script::run::run_script;
-use vdp_script::write::write_kind;
+use vdp_lent::answer::{LentItemAnswer, LentJudged, LentScriptAnswer, LentWritten};
+use vdp_lent::script;
 use vdp_state::state::State;
 
 // Runs a script.
@@ -30,10 +24,7 @@ pub extern "C" fn kuthbareen_run_script(
     ensures { script_outcome (with_script_state result s.new) vram.new pixels.new
         ≡ run_script script.now cartridge.now ram.now (chip s.old vram.old) pixels.old }
 {
-    lend_script(
-        run_script(*s, vram, Memories { cartridge, ram }, pixels, script),
-        s,
-    )
+    script::kuthbareen_run_script(s, vram, cartridge, ram, pixels, script)
 }
 
 // Makes the call of the item that begins at a byte of a script.
@@ -50,11 +41,7 @@ pub extern "C" fn kuthbareen_script_item(
     ensures { script_item_outcome (with_item_state result s.new) vram.new pixels.new
         ≡ script_item script.now at cartridge.now ram.now (chip s.old vram.old) pixels.old }
 {
-    lend_item(
-        script_item(*s, vram, Memories { cartridge, ram }, pixels, script, at),
-        at,
-        s,
-    )
+    script::kuthbareen_script_item(s, vram, cartridge, ram, pixels, script, at)
 }
 
 // Judges a script as a whole, with this pending flag.
@@ -62,7 +49,7 @@ pub extern "C" fn kuthbareen_script_item(
 pub extern "C" fn kuthbareen_judge_script(pending: bool, script: &[u8]) -> LentJudged
     ensures { judged_as result ≡ judged pending script.now }
 {
-    judge_script(pending, script).into()
+    script::kuthbareen_judge_script(pending, script)
 }
 
 // Writes the item of a kind with this content at a byte of a script.
@@ -75,5 +62,5 @@ pub extern "C" fn kuthbareen_write_item(
 ) -> LentWritten
     ensures { write_outcome (written_as result) script.new ≡ write_kind script.old at kind content }
 {
-    write_kind(script, at, kind, content).into()
+    script::kuthbareen_write_item(script, at, kind, content)
 }

@@ -1,22 +1,15 @@
-// The recorded calls and step back over a state that is lent (definition, The tape).
+// The recorded calls and step back over a state that is lent, for C programs.
 ghost use Rattle.std.specs.Prelude.{◌≡◌, List, ℕ};
 ghost use Rattle.vdp_ports.specs.Control.{byte_word};
 ghost use Rattle.vdp_tape.specs.Line.{line_tape_outcome, recorded_line};
 ghost use Rattle.vdp_tape.specs.Recorded.{ControlWrite, DataWrite, DataRead, StatusRead, NewFrame, LineBegins, Acknowledge, Run, recorded};
 ghost use Rattle.vdp_tape.specs.Recorder.{recorder, tape_outcome};
 ghost use Rattle.vdp_tape.specs.StepBack.{step_back};
-ghost use Rattle.kuthbareen_c.specs.Answer.{with_tape_state};
+ghost use Rattle.vdp_lent.specs.Answer.{with_tape_state};
 
-use crate::answer::{LentTapeAnswer, lend_recorded};
-use vdp_dma::source::Memories;
+use vdp_lent::answer::LentTapeAnswer;
+use vdp_lent::tape;
 use vdp_state::state::State;
-use vdp_tape::calls::{
-    control_write, control_write_byte, data_read, data_write, data_write_byte, new_frame, run,
-    status_read,
-};
-use vdp_tape::line::line as draw;
-use vdp_tape::step_back::step_back;
-use vdp_tape::timing::{acknowledge, line_begins};
 
 // Writes a word to the control port.
 #[unsafe(no_mangle)]
@@ -29,7 +22,7 @@ pub extern "C" fn kuthbareen_recorded_control_write(
     ensures { (m : List ℕ) → tape_outcome (with_tape_state result s.new) m tape.new
         ≡ recorded (ControlWrite w) (recorder s.old m tape.old count) }
 {
-    lend_recorded(control_write(*s, tape, count, w), count, s)
+    tape::kuthbareen_recorded_control_write(s, tape, count, w)
 }
 
 // Writes a byte to the control port.
@@ -43,7 +36,7 @@ pub extern "C" fn kuthbareen_recorded_control_write_byte(
     ensures { (m : List ℕ) → tape_outcome (with_tape_state result s.new) m tape.new
         ≡ recorded (ControlWrite (byte_word b)) (recorder s.old m tape.old count) }
 {
-    lend_recorded(control_write_byte(*s, tape, count, b), count, s)
+    tape::kuthbareen_recorded_control_write_byte(s, tape, count, b)
 }
 
 // Writes a word to the data port.
@@ -58,7 +51,7 @@ pub extern "C" fn kuthbareen_recorded_data_write(
     ensures { tape_outcome (with_tape_state result s.new) vram.new tape.new
         ≡ recorded (DataWrite w) (recorder s.old vram.old tape.old count) }
 {
-    lend_recorded(data_write(*s, vram, tape, count, w), count, s)
+    tape::kuthbareen_recorded_data_write(s, vram, tape, count, w)
 }
 
 // Writes a byte to the data port.
@@ -73,7 +66,7 @@ pub extern "C" fn kuthbareen_recorded_data_write_byte(
     ensures { tape_outcome (with_tape_state result s.new) vram.new tape.new
         ≡ recorded (DataWrite (byte_word b)) (recorder s.old vram.old tape.old count) }
 {
-    lend_recorded(data_write_byte(*s, vram, tape, count, b), count, s)
+    tape::kuthbareen_recorded_data_write_byte(s, vram, tape, count, b)
 }
 
 // Reads a word from the data port.
@@ -87,7 +80,7 @@ pub extern "C" fn kuthbareen_recorded_data_read(
     ensures { tape_outcome (with_tape_state result s.new) vram.now tape.new
         ≡ recorded DataRead (recorder s.old vram.now tape.old count) }
 {
-    lend_recorded(data_read(*s, vram, tape, count), count, s)
+    tape::kuthbareen_recorded_data_read(s, vram, tape, count)
 }
 
 // Reads the status word.
@@ -100,7 +93,7 @@ pub extern "C" fn kuthbareen_recorded_status_read(
     ensures { (m : List ℕ) → tape_outcome (with_tape_state result s.new) m tape.new
         ≡ recorded StatusRead (recorder s.old m tape.old count) }
 {
-    lend_recorded(status_read(*s, tape, count), count, s)
+    tape::kuthbareen_recorded_status_read(s, tape, count)
 }
 
 // Begins a new frame.
@@ -113,7 +106,7 @@ pub extern "C" fn kuthbareen_recorded_new_frame(
     ensures { (m : List ℕ) → tape_outcome (with_tape_state result s.new) m tape.new
         ≡ recorded NewFrame (recorder s.old m tape.old count) }
 {
-    lend_recorded(new_frame(*s, tape, count), count, s)
+    tape::kuthbareen_recorded_new_frame(s, tape, count)
 }
 
 // The next line begins.
@@ -126,7 +119,7 @@ pub extern "C" fn kuthbareen_recorded_line_begins(
     ensures { (m : List ℕ) → tape_outcome (with_tape_state result s.new) m tape.new
         ≡ recorded LineBegins (recorder s.old m tape.old count) }
 {
-    lend_recorded(line_begins(*s, tape, count), count, s)
+    tape::kuthbareen_recorded_line_begins(s, tape, count)
 }
 
 // Acknowledges the level that is offered.
@@ -140,7 +133,7 @@ pub extern "C" fn kuthbareen_recorded_acknowledge(
     ensures { (m : List ℕ) → tape_outcome (with_tape_state result s.new) m tape.new
         ≡ recorded (Acknowledge level) (recorder s.old m tape.old count) }
 {
-    lend_recorded(acknowledge(*s, tape, count, level), count, s)
+    tape::kuthbareen_recorded_acknowledge(s, tape, count, level)
 }
 
 // Makes DMA units, at most as many as the budget, with a record for each.
@@ -158,11 +151,7 @@ pub extern "C" fn kuthbareen_recorded_run(
         ≡ recorded (Run cartridge.now ram.now budget)
         (recorder s.old vram.old tape.old count) }
 {
-    lend_recorded(
-        run(*s, vram, Memories { cartridge, ram }, tape, count, budget),
-        count,
-        s,
-    )
+    tape::kuthbareen_recorded_run(s, vram, cartridge, ram, tape, count, budget)
 }
 
 // Draws a line: its pixel bytes, and the visits as the result.
@@ -180,7 +169,7 @@ pub extern "C" fn kuthbareen_recorded_line(
         ≡ recorded_line line pixels.old
         (recorder s.old vram.now tape.old count) }
 {
-    lend_recorded(draw(*s, vram, tape, count, line, pixels), count, s)
+    tape::kuthbareen_recorded_line(s, vram, tape, count, line, pixels)
 }
 
 // Takes back the last k steps.
@@ -195,5 +184,5 @@ pub extern "C" fn kuthbareen_step_back(
     ensures { tape_outcome (with_tape_state result s.new) vram.new tape.now
         ≡ step_back (recorder s.old vram.old tape.now count) k }
 {
-    lend_recorded(step_back(*s, vram, tape, count, k), count, s)
+    tape::kuthbareen_step_back(s, vram, tape, count, k)
 }

@@ -1,22 +1,20 @@
-// The calls of frame timing over a state that is lent (definition, Frame timing).
+// Frame timing over a state that is lent, for C programs.
 ghost use Rattle.std.specs.Prelude.{◌≡◌};
 ghost use Rattle.vdp_timing.specs.Interrupt.{level_offered, acknowledge as acknowledge_answer};
 ghost use Rattle.vdp_timing.specs.LineBegins.{line_begins};
 ghost use Rattle.vdp_timing.specs.VCounter.{v_counter};
-ghost use Rattle.kuthbareen_c.specs.Answer.{with_state};
+ghost use Rattle.vdp_lent.specs.Answer.{with_state};
 
-use crate::answer::{LentAnswer, lend};
+use vdp_lent::answer::LentAnswer;
+use vdp_lent::timing;
 use vdp_state::state::State;
-use vdp_timing::interrupt::{acknowledge, level_offered};
-use vdp_timing::line_begins::line_begins;
-use vdp_timing::v_counter::v_counter;
 
 // The next line begins.
 #[unsafe(no_mangle)]
 pub extern "C" fn kuthbareen_line_begins(s: &mut State) -> LentAnswer
     ensures { with_state result s.new ≡ line_begins s.old }
 {
-    lend(line_begins(*s), s)
+    timing::kuthbareen_line_begins(s)
 }
 
 // Acknowledges the level that is offered.
@@ -24,7 +22,7 @@ pub extern "C" fn kuthbareen_line_begins(s: &mut State) -> LentAnswer
 pub extern "C" fn kuthbareen_acknowledge(s: &mut State, level: u8) -> LentAnswer
     ensures { with_state result s.new ≡ acknowledge_answer s.old level }
 {
-    lend(acknowledge(*s, level), s)
+    timing::kuthbareen_acknowledge(s, level)
 }
 
 // Reads the V counter.
@@ -32,7 +30,7 @@ pub extern "C" fn kuthbareen_acknowledge(s: &mut State, level: u8) -> LentAnswer
 pub extern "C" fn kuthbareen_v_counter(s: &mut State) -> LentAnswer
     ensures { with_state result s.new ≡ v_counter s.old }
 {
-    lend(v_counter(*s), s)
+    timing::kuthbareen_v_counter(s)
 }
 
 // Reads the level that is offered, 0 if none is.
@@ -40,5 +38,5 @@ pub extern "C" fn kuthbareen_v_counter(s: &mut State) -> LentAnswer
 pub extern "C" fn kuthbareen_level_offered(s: &mut State) -> LentAnswer
     ensures { with_state result s.new ≡ level_offered s.old }
 {
-    lend(level_offered(*s), s)
+    timing::kuthbareen_level_offered(s)
 }

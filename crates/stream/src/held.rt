@@ -1,7 +1,7 @@
 // A buffer of the stream: the bytes that are held, and how many of them a call is lent.
 ghost use Rattle.std.specs.Prelude.{◌≡◌, ◌≤◌, min, take};
 
-#[derive(Drop)]
+#[derive(Clone, Copy)]
 pub struct Held<const N: usize> {
     pub bytes: [u8; N],
     pub length: usize,
@@ -10,7 +10,9 @@ pub struct Held<const N: usize> {
 
 impl<const N: usize> Held<N> {
     // Bytes that are 0, lent at this length.
-    pub(crate) fn zero(length: usize) -> Self {
+    pub(crate) fn zero(length: usize) -> Self
+        ensures { result.length ≡ min length N }
+    {
         Held {
             bytes: [0; N],
             length: length.min(N),
@@ -24,7 +26,10 @@ impl<const N: usize> Held<N> {
         &self.bytes[..self.length]
     }
 
-    pub(crate) fn lent_mut(&mut self) -> &mut [u8] {
+    // The same for a call that may write there.
+    pub(crate) fn lent_mut(&mut self) -> &mut [u8]
+        ensures { result.now ≡ take self.old.length self.old.bytes }
+    {
         let length = self.length;
         let bytes = &mut self.bytes;
         let all = &mut bytes[..];

@@ -21,7 +21,7 @@ pub const ROW_HELD: usize = 12;
 pub const SCRIPT_HELD: usize = 16388;
 
 // The memories that transfers read.
-#[derive(Drop)]
+#[derive(Clone, Copy)]
 pub struct HeldMemories {
     pub cartridge: Held<CARTRIDGE_HELD>,
     pub ram: Held<WORK_RAM_HELD>,
@@ -36,7 +36,7 @@ impl HeldMemories {
     }
 }
 
-#[derive(Drop)]
+#[derive(Clone, Copy)]
 pub struct Machine {
     pub state: State,
     pub vram: Held<VRAM_HELD>,

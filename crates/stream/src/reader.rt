@@ -20,9 +20,9 @@ pub(crate) fn deliver_bytes<E, F: FnMut(Line) -> Result<(), E>>(
 ) -> Result<(), E>
     requires { F.IsAlwaysCallable print }
 {
-    let mut at = usize::from(from);
-    let end = (at + count as usize).min(m.script.length);
-    at = at.min(end);
+    let script = m.script.lent();
+    let end = script.len().min(usize::from(from) + count as usize);
+    let mut rest = &script[end.min(usize::from(from))..end];
     for calls in 0..=SCRIPT_HELD {
         let d = deliver(
             m.state,
@@ -30,11 +30,11 @@ pub(crate) fn deliver_bytes<E, F: FnMut(Line) -> Result<(), E>>(
             m.memories.lent(),
             m.pixels.lent_mut(),
             m.reader,
-            m.script.lent().get(at..end).unwrap_or_default(),
+            rest,
         );
         m.state = d.state;
         m.reader = d.reader;
-        at = at.saturating_add(d.taken).min(end);
+        rest = rest.get(d.taken..).unwrap_or_default();
         let number = number_in(&d.answer);
         let Some(result) = d.call else {
             let result = calls as u64;

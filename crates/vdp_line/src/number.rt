@@ -39,7 +39,9 @@ fn not_modelled(s: State) -> bool
         | (4096 < plane_cells(s))
 }
 
-// Whether a line is refused.
+// Whether a line is refused. Inlined, so that the compiler sees VRAM's length in the line's loops: else each dot is asked
+// for its bounds, and sprites are painted column by column.
+#[inline(always)]
 pub fn line_check(s: State, vram: &[u8], line: u32, pixels: &[u8]) -> Result<(), Refusal>
     ensures { number_in result ≡ line_number (chip s vram.now) line pixels.now }
 {

@@ -3,7 +3,7 @@ ghost use Rattle.std.specs.Prelude.{◌≡◌, ◌+◌, ◌*◌};
 ghost use Rattle.vdp_state.specs.Answer.{number_in, answer_of, first};
 ghost use Rattle.vdp_ports.specs.Control.{byte_word, fill_dropped, register_write, first_half, second_half, dma_started, dma_after, control_step, control_tests, control_write};
 
-use crate::length::{Bytes, Words, copy, fill_waiting, idle, length, transfer};
+use crate::length::{byte_length, copy, fill_waiting, idle, transfer, word_length};
 use crate::refusal::busy;
 use crate::taken::{Taken, has_register, register_of, taken_as};
 use vdp_state::answer::{Done, Refusal, made};
@@ -75,12 +75,12 @@ fn dma_started(s: State) -> Dma
     let middle = s.registers[22];
     let low = s.registers[21];
     if mode < 128 {
-        return transfer(Words(length(s)), transfer_source(mode, middle, low));
+        return transfer(word_length(s), transfer_source(mode, middle, low));
     }
     if mode < 192 {
         return fill_waiting();
     }
-    copy(Bytes(length(s)), u32::from(joined(middle, low)))
+    copy(byte_length(s), u32::from(joined(middle, low)))
 }
 
 fn dma_after(s: State, w: u16) -> Dma

@@ -7,7 +7,7 @@ ghost use Rattle.vdp_ports.specs.Data.{advanced as advanced_port, port_after, fi
 
 use crate::access::{access_of, read_word, written};
 use crate::control::byte_word;
-use crate::length::{Bytes, fill, length};
+use crate::length::{byte_length, fill};
 use crate::refusal::{VRAM_SIZE, busy};
 use vdp_state::answer::{Done, Refusal, made, made_with_vram};
 use vdp_state::good::good;
@@ -38,7 +38,7 @@ fn fill_begun(s: State, w: u16) -> Dma
 {
     if s.control.dma.is(DmaKind::FillWaiting) {
         let [high, _] = w.to_be_bytes();
-        fill(Bytes(length(s)), high)
+        fill(byte_length(s), high)
     } else {
         s.control.dma
     }

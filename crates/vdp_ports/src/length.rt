@@ -1,7 +1,7 @@
 // DMA lengths (definition, DMA; notes s11): words for a transfer, bytes for a fill or copy, and the DMA states that
 // begin with them.
 ghost use Rattle.std.specs.Prelude.{◌≡◌};
-ghost use Rattle.vdp_ports.specs.Length.{units as units_from, units_of, idle as idle_dma, fill_waiting, transfer as transfer_dma, fill as fill_dma, copy as copy_dma};
+ghost use Rattle.vdp_ports.specs.Length.{units as units_from, units_of, words as words_of, bytes as bytes_of, idle as idle_dma, fill_waiting, transfer as transfer_dma, fill as fill_dma, copy as copy_dma};
 
 use vdp_state::cell::joined;
 use vdp_state::good::MOST_UNITS;
@@ -28,6 +28,18 @@ pub fn length(s: State) -> u32
     ensures { result ≡ units_of s }
 {
     units(u32::from(joined(s.registers[20], s.registers[19])))
+}
+
+pub fn word_length(s: State) -> Words
+    ensures { result ≡ words_of (units_of s) }
+{
+    Words(length(s))
+}
+
+pub fn byte_length(s: State) -> Bytes
+    ensures { result ≡ bytes_of (units_of s) }
+{
+    Bytes(length(s))
 }
 
 pub fn idle() -> Dma

@@ -20,9 +20,9 @@ pub enum Item {
 pub(crate) const LENGTH_BYTES: usize = 2;
 
 // The bytes of an item up to its kind, and those of a content.
-const HEAD_BYTES: usize = 3;
+pub(crate) const HEAD_BYTES: usize = 3;
 
-const CONTENT_BYTES: usize = 2;
+pub(crate) const CONTENT_BYTES: usize = 2;
 
 impl Item {
     // The number of its kind, which is a byte of a script: no enum, since any byte may come there.

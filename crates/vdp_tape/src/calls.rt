@@ -38,7 +38,9 @@ pub(crate) fn without_vram(
     record_one(plain, s, &mut [], tape, count, t, res)
 }
 
-// Writes a word to the control port.
+// Writes a word to the control port. Inlined, since a call of it copies the state once more, which takes a quarter more
+// time.
+#[inline(always)]
 pub fn control_write(s: State, tape: &mut [u8], count: usize, w: u16) -> Result<Recorded, Refusal>
     ensures { (m : List ℕ) → tape_outcome (tape_answer_of s count result) m tape.new
         ≡ recorded (ControlWrite w) (recorder s m tape.old count) }

@@ -9,7 +9,7 @@ ghost use Rattle.vdp_script.specs.Call.{item_answer_of};
 ghost use Rattle.vdp_script.specs.Form.{judged_of};
 ghost use Rattle.vdp_script.specs.Run.{run_answer_of};
 ghost use Rattle.vdp_script.specs.Write.{written_of};
-ghost use Rattle.kuthbareen_c.specs.Answer.{with_state, with_tape_state, with_item_state, with_script_state, with_delivered, judged_as, written_as, ended_as};
+ghost use Rattle.vdp_lent.specs.Answer.{with_state, with_tape_state, with_item_state, with_script_state, with_delivered, judged_as, written_as, ended_as};
 
 use vdp_reader::deliver::Delivery;
 use vdp_reader::end::Ended;

@@ -8,14 +8,14 @@ use Rattle.vdp_script.specs.Form.{Judged}
 use Rattle.vdp_script.specs.Run.{RunAnswer}
 use Rattle.vdp_script.specs.Write.{Written}
 use Rattle.vdp_tape.specs.Recorder.{TapeAnswer}
-use Rattle.kuthbareen_c.specs.declared.answer.LentAnswer.{LentAnswer}
-use Rattle.kuthbareen_c.specs.declared.answer.LentTapeAnswer.{LentTapeAnswer}
-use Rattle.kuthbareen_c.specs.declared.answer.LentItemAnswer.{LentItemAnswer}
-use Rattle.kuthbareen_c.specs.declared.answer.LentScriptAnswer.{LentScriptAnswer}
-use Rattle.kuthbareen_c.specs.declared.answer.LentDelivery.{LentDelivery}
-use Rattle.kuthbareen_c.specs.declared.answer.LentEnd.{LentEnd}
-use Rattle.kuthbareen_c.specs.declared.answer.LentJudged.{LentJudged}
-use Rattle.kuthbareen_c.specs.declared.answer.LentWritten.{LentWritten}
+use Rattle.vdp_lent.specs.declared.answer.LentAnswer.{LentAnswer}
+use Rattle.vdp_lent.specs.declared.answer.LentTapeAnswer.{LentTapeAnswer}
+use Rattle.vdp_lent.specs.declared.answer.LentItemAnswer.{LentItemAnswer}
+use Rattle.vdp_lent.specs.declared.answer.LentScriptAnswer.{LentScriptAnswer}
+use Rattle.vdp_lent.specs.declared.answer.LentDelivery.{LentDelivery}
+use Rattle.vdp_lent.specs.declared.answer.LentEnd.{LentEnd}
+use Rattle.vdp_lent.specs.declared.answer.LentJudged.{LentJudged}
+use Rattle.vdp_lent.specs.declared.answer.LentWritten.{LentWritten}
 
 -- what was given and the lent state at exit are together the answer of the call by value
 abbrev pub with_state : LentAnswer → State → Answer

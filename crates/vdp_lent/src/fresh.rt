@@ -1,0 +1,13 @@
+// The fresh state for a C program (definition, The state).
+ghost use Rattle.std.specs.Prelude.{◌≡◌};
+ghost use Rattle.vdp_state.specs.Fresh.{fresh as fresh_state};
+
+use vdp_state::fresh::fresh;
+use vdp_state::state::State;
+
+// By value: so the memory that is to hold the state need not hold one before.
+pub fn kuthbareen_fresh(pal: bool) -> State
+    ensures { result ≡ fresh_state pal }
+{
+    fresh(pal)
+}
