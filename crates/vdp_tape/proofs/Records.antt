@@ -22,7 +22,7 @@ use Rattle.vdp_state.specs.Colour.{colour_word}
 use Rattle.vdp_state.specs.Good.{is_colour, is_scroll, good_control, last_line}
 use Rattle.vdp_state.specs.Range.{good_store, GoodStep}
 use Rattle.vdp_state.specs.Same.{same}
-use Rattle.vdp_state.proofs.Bools.{both_left, both_right, both}
+use Rattle.vdp_state.proofs.Bools.{and_false, both_left, both_right, both}
 use Rattle.vdp_state.proofs.Facts.{dma_facts, source_bits, parts}
 use Rattle.vdp_state.proofs.Same.{same_equal, same_self}
 use Rattle.vdp_tape.specs.Record.{kept_of, store_of, flag_bit, flag_byte, flag_at, Field, layout, Reading, reading, bytes_of, number_at, written, record_of, read_from, step_of, good_record}
@@ -198,12 +198,18 @@ module _ (t : Step) (g : GoodStep t) where
       both (both (ap (λ (x : Step). same (record_of x) (record_of t)) read_back ∙ same_self (record_of t)) (ap (λ (x : Step). good_control x.control) read_back ∙ g.control.good))
       (ap (λ (x : Step). good_store x.store) read_back ∙ g.store)
 
--- `==` at slices compares as the definition does
+-- `==` at arrays compares as the definition does, and lists of different lengths are not the same
 pub pointwise_same : (a b : List ℕ) → pointwise eqb a b ≡ same a b
 pointwise_same [] [] = refl
 pointwise_same [] (y ∷ ys) = refl
 pointwise_same (x ∷ xs) [] = refl
 pointwise_same (x ∷ xs) (y ∷ ys) = ap (λ (r : Bool). eqb x y && r) (pointwise_same xs ys)
+
+pub same_lengths : (a b : List ℕ) → (length a ≡ length b → ⊥) → same a b ≡ false
+same_lengths [] [] h = absurd (h refl)
+same_lengths [] (y ∷ b) h = refl
+same_lengths (x ∷ a) [] h = refl
+same_lengths (x ∷ a) (y ∷ b) h = ap (λ (t : Bool). eqb x y && t) (same_lengths a b (λ e. h (ap suc e))) ∙ and_false (eqb x y)
 
 -- a flag of a byte, as the code shifts it down
 pub flag_shifted : (i n : ℕ) → eqb (n / 2 ^ i % 2) 1 ≡ flag_at n i

@@ -2,6 +2,7 @@
 ghost use Rattle.std.specs.Prelude.{◌≡◌, [], ◌∷◌, ◌<◌};
 ghost use Rattle.vdp_tape.specs.Record.{kept_of, store_of, flag_byte, flag_at, flags_of, number_at, record_of, step_of, good_record};
 ghost use Rattle.vdp_state.specs.Range.{good_store};
+ghost use Rattle.vdp_state.specs.Same.{same as same_bytes};
 
 use crate::number::RECORD_SIZE;
 use vdp_state::cell::{get_or, word_at};
@@ -173,7 +174,8 @@ fn control_of(bytes: &[u8]) -> Control
     }
 }
 
-// The step that 32 bytes read as.
+// The step that 32 bytes read as. Inlined, so that the compiler sees in the loops over records that there are so many.
+#[inline(always)]
 pub fn step_of(bytes: &[u8]) -> Step
     ensures { result ≡ step_of bytes.now }
 {
@@ -200,10 +202,22 @@ fn store_good(store: Store) -> bool
     }
 }
 
+// Whether bytes are those of a record. They are compared as arrays: slices are by a call that the library never inlines,
+// which a step back made for each record.
+#[tactic(auto, using(crate::proofs::Records::pointwise_same, crate::proofs::Records::same_lengths))]
+fn same(made: [u8; RECORD_SIZE], bytes: &[u8]) -> bool
+    ensures { result ≡ same_bytes made bytes.now }
+{
+    match bytes.as_array() {
+        Some(kept) => made == *kept,
+        None => false,
+    }
+}
+
 // Whether a record keeps the layout and its ranges.
 pub fn good_record(bytes: &[u8]) -> bool
     ensures { result ≡ good_record bytes.now }
 {
     let t = step_of(bytes);
-    (record_of(t).as_slice() == bytes) & control_good(t.control) & store_good(t.store)
+    same(record_of(t), bytes) & control_good(t.control) & store_good(t.store)
 }
